@@ -1,0 +1,5 @@
+mod Lines
+pub mod Upward
+pub mod Above
+pub mod Answering
+pub mod Meet

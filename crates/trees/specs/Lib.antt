@@ -1,0 +1,11 @@
+pub mod Tree
+pub mod Above
+pub mod Order
+pub mod Deepest
+pub mod Host
+pub mod HostLaw
+pub mod Rule
+pub mod RuleLaw
+pub mod Indented
+pub mod IndentedLaw
+pub mod Climbing
