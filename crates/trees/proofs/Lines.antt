@@ -5,9 +5,9 @@ use mathlib.Core.Bool.{true, false, cond}
 use Prim.Native.Nat.{ℕ, zero, suc, _+_, _-_, _<_, _≤_}
 use native.Mathlib.Nat.{zero-add, suc-add}
 use native.Mathlib.Omega.{arith}
+use lib.Dec.{eqb}
 use lib.ListN.{getD}
 use Rattle.std.specs.declared.option.Option.the-variants.{Some, None}
-use Rattle.std.proofs.shelf.Tests.{eq-eqb, ne-eqb}
 use Rattle.trees.specs.Indented.{misplaced, or-else, first-misplaced, nearest}
 
 -- The search for a misplaced line: none so far, and then line v.
@@ -37,16 +37,14 @@ ill xs v k a b e f =
     sym (subst (λ (j : ℕ). first-misplaced xs j ≡ Some v) i (stays xs v v (k - v) (seen xs v a e ∙ ap (λ t. cond t (Some v) None) f)))
 
 -- The search back for a level: line u - 1 has it, or has it not.
-pub hit : (xs : List ℕ) (l u : ℕ) → 1 ≤ u → getD xs (u - 1) 0 + 1 ≡ l → nearest xs l u ≡ Some (u - 1)
-hit xs l zero a e = absurd (omega arith)
-hit xs l (suc k) a e =
-    let i : suc k - 1 ≡ k = omega arith in
-    let f : getD xs k 0 + 1 ≡ l = subst (λ (j : ℕ). getD xs j 0 + 1 ≡ l) i e in
-    ap (λ t. cond t (Some k) (nearest xs l k)) (eq-eqb (getD xs k 0 + 1) l f) ∙ ap Some (sym i)
+back : (xs : List ℕ) (l u : ℕ) → 1 ≤ u → nearest xs l u ≡ cond (eqb (getD xs (u - 1) 0 + 1) l) (Some (u - 1)) (nearest xs l (u - 1))
+back xs l zero a = absurd (omega arith)
+back xs l (suc k) a =
+    let i : k ≡ suc k - 1 = omega arith in
+    ap (λ (j : ℕ). cond (eqb (getD xs j 0 + 1) l) (Some j) (nearest xs l j)) i
 
-pub miss : (xs : List ℕ) (l u : ℕ) → 1 ≤ u → (getD xs (u - 1) 0 + 1 ≡ l → ⊥) → nearest xs l u ≡ nearest xs l (u - 1)
-miss xs l zero a e = absurd (omega arith)
-miss xs l (suc k) a e =
-    let i : suc k - 1 ≡ k = omega arith in
-    let f : getD xs k 0 + 1 ≡ l → ⊥ = subst (λ (j : ℕ). getD xs j 0 + 1 ≡ l → ⊥) i e in
-    ap (λ t. cond t (Some k) (nearest xs l k)) (ne-eqb (getD xs k 0 + 1) l f) ∙ ap (nearest xs l) (sym i)
+pub hit : (xs : List ℕ) (l u : ℕ) → 1 ≤ u → eqb (getD xs (u - 1) 0 + 1) l ≡ true → nearest xs l u ≡ Some (u - 1)
+hit xs l u a e = back xs l u a ∙ ap (λ t. cond t (Some (u - 1)) (nearest xs l (u - 1))) e
+
+pub miss : (xs : List ℕ) (l u : ℕ) → 1 ≤ u → eqb (getD xs (u - 1) 0 + 1) l ≡ false → nearest xs l u ≡ nearest xs l (u - 1)
+miss xs l u a e = back xs l u a ∙ ap (λ t. cond t (Some (u - 1)) (nearest xs l (u - 1))) e

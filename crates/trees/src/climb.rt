@@ -83,11 +83,11 @@ fn reaches<H: Host>(host: &H, n: u16, a: u16, v: u16) -> bool
     requires node { ⌜ v < n ⌝ }
     ensures { λ r. ⌜ r ≡ is-above (parents (now (host .entry))) a v ⌝ }
 {
-    let mut at = v;
-    while at > a {
-        at = parent_of(host, n, at);
+    let mut node = v;
+    while node > a {
+        node = parent_of(host, n, node);
     }
-    at == a
+    node == a
 }
 
 // The deepest node at or above two nodes: the one with the greater number does not stand above the other, so it climbs.

@@ -1,7 +1,8 @@
 // A tree given by the levels of an indented parts list: line v is node v.
 ghost use mathlib.Core.Path.{_≡_};
 ghost use mathlib.Core.Bool.{false};
-ghost use Prim.Native.Nat.{_-_, _<_, _≤_};
+ghost use Prim.Native.Nat.{_+_, _-_, _<_, _≤_};
+ghost use lib.Dec.{eqb};
 ghost use lib.ListN.{length, getD};
 ghost use Rattle.std.specs.Results.{isOk};
 ghost use Rattle.std.specs.declared.option.Option.the-variants.{None};
@@ -88,14 +89,21 @@ fn judge(levels: &[u16]) -> Result<u16, HostFault>
     }
 }
 
-// The last line before line v whose level is one less than that of line v.
+// Whether line u has a level one less than that of line v.
+fn is_one_less(levels: &[u16], u: u16, v: u16) -> bool
+    requires { ⌜ u < length (now levels) ⌝ ∗ ⌜ v < length (now levels) ⌝ }
+    ensures { λ r. ⌜ r ≡ eqb (getD (now (levels .entry)) u 0 + 1) (getD (now (levels .entry)) v 0) ⌝ }
+{
+    levels[u as usize] as u32 + 1 == levels[v as usize] as u32
+}
+
+// The last line before line v whose level is one less.
 fn line_above(levels: &[u16], v: u16) -> Option<u16>
     requires { ⌜ v < length (now levels) ⌝ }
     ensures { λ r. ⌜ r ≡ nearest (now (levels .entry)) (getD (now (levels .entry)) v 0) v ⌝ }
 {
-    let level = levels[v as usize] as u32;
     for u in (0..v).rev() {
-        if levels[u as usize] as u32 + 1 == level {
+        if is_one_less(levels, u, v) {
             return Some(u);
         }
     }

@@ -3,3 +3,5 @@ pub mod climb;
 pub mod host;
 pub mod indented;
 pub mod rule;
+#[cfg(test)]
+mod tests;

@@ -3,8 +3,8 @@ use Prim.Native.Nat.{_<_}
 use Rattle.trees.specs.Above.{is-above}
 use Rattle.trees.proofs.climb.reaches.Given as given
 
-abbrev pub Inv-loop-at : given.InvT-loop-at
-Inv-loop-at g l = (l .at < l .n) × (is-above (g .H·Host .parents (l .host)) (l .a) (l .at) ≡ is-above (g .H·Host .parents (l .host)) (l .a) (l .v))
+abbrev pub Inv-loop-node : given.InvT-loop-node
+Inv-loop-node g l = (l .node < l .n) × (is-above (g .H·Host .parents (l .host)) (l .a) (l .node) ≡ is-above (g .H·Host .parents (l .host)) (l .a) (l .v))
 
-abbrev pub μ-loop-at : given.MeasureT-loop-at
-μ-loop-at g l = l .at
+abbrev pub μ-loop-node : given.MeasureT-loop-node
+μ-loop-node g l = l .node

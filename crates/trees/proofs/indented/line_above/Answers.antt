@@ -3,12 +3,14 @@ use lib.ListN.{getD}
 use Rattle.trees.proofs.Lines.{hit, miss}
 use Rattle.trees.proofs.indented.line_above.Needs as need
 
-pub returns-then-levels-u : need.returns-then-levels-u
-returns-then-levels-u c =
+pub returns-then-is-one-less : need.returns-then-is-one-less
+returns-then-is-one-less c =
     let xs = c .args .levels .now in
-    sym (sym (c .loop-u .inv) ∙ hit xs (getD xs (c .args .v) 0) (c .loop-u .u) (c .loop-u-test .taken) (c .if-levels-u .taken))
+    let found = sym (c .is-one-less .ensures) ∙ c .if-is-one-less .taken in
+    sym (sym (c .loop-u .inv) ∙ hit xs (getD xs (c .args .v) 0) (c .loop-u .u) (c .loop-u-test .taken) found)
 
 pub loop-u-again : need.loop-u-again
 loop-u-again c =
     let xs = c .args .levels .now in
-    sym (miss xs (getD xs (c .args .v) 0) (c .loop-u .u) (c .loop-u-test .taken) (c .if-levels-u .left)) ∙ c .loop-u .inv
+    let passed = sym (c .is-one-less .ensures) ∙ c .if-is-one-less .left in
+    sym (miss xs (getD xs (c .args .v) 0) (c .loop-u .u) (c .loop-u-test .taken) passed) ∙ c .loop-u .inv

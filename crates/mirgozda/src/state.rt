@@ -1,0 +1,26 @@
+// What a script has at hand.
+use std::alloc::Global;
+use trees::rule::RuleHost;
+
+// The present host, by what it was made from.
+#[derive(Drop)]
+pub enum Source {
+    Absent,
+    Levels(Vec<u16>),
+    Rule(RuleHost),
+}
+
+#[derive(Drop)]
+pub struct State {
+    pub heap: Global,
+    pub source: Source,
+}
+
+impl State {
+    pub fn new(heap: Global) -> State {
+        State {
+            heap,
+            source: Source::Absent,
+        }
+    }
+}
