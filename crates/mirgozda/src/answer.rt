@@ -1,4 +1,6 @@
 // Carries out the commands of a script, and adds their answers to what is printed.
+use crate::codes::Coding;
+use crate::codes::say_word;
 use crate::hosts::say_meet;
 use crate::hosts::say_parent;
 use crate::hosts::say_verdict;
@@ -26,6 +28,8 @@ enum Verb {
     Verdict,
     Parent,
     Meet,
+    Code,
+    Word,
 }
 
 fn verb_of(name: &str) -> Option<Verb> {
@@ -38,6 +42,8 @@ fn verb_of(name: &str) -> Option<Verb> {
         "verdict" => Some(Verb::Verdict),
         "parent" => Some(Verb::Parent),
         "meet" => Some(Verb::Meet),
+        "code" => Some(Verb::Code),
+        "word" => Some(Verb::Word),
         _ => None,
     }
 }
@@ -48,6 +54,10 @@ fn not_understood(out: &mut Vec<u8>) -> io::Result<()> {
 
 fn no_host(out: &mut Vec<u8>) -> io::Result<()> {
     writeln!(out, "no host")
+}
+
+fn refused(number: u8, out: &mut Vec<u8>) -> io::Result<()> {
+    writeln!(out, "refused {number}")
 }
 
 // Makes an indented list the present host.
@@ -135,6 +145,31 @@ fn meeting(state: &State, rest: &[&str], out: &mut Vec<u8>) -> io::Result<()> {
     }
 }
 
+fn code(state: &mut State, rest: &[&str], out: &mut Vec<u8>) -> io::Result<()> {
+    let [name] = rest else {
+        return not_understood(out);
+    };
+    let Some(coding) = Coding::by_name(name) else {
+        return not_understood(out);
+    };
+    state.coding = coding;
+    let name = coding.name();
+    writeln!(out, "code: {name}")
+}
+
+fn word(state: &State, rest: &[&str], out: &mut Vec<u8>) -> io::Result<()> {
+    let Some(numbers) = small_numbers(state.heap, rest)? else {
+        return not_understood(out);
+    };
+    let [index, weights @ ..] = numbers.as_slice() else {
+        return not_understood(out);
+    };
+    match state.coding.word(weights, usize::from(*index)) {
+        Ok(word) => say_word(word, out),
+        Err(refusal) => refused(refusal.number(), out),
+    }
+}
+
 // Carries out the command of these words.
 pub fn carry_out(
     rt: &LibcRuntime,
@@ -157,5 +192,7 @@ pub fn carry_out(
         Verb::Verdict => verdict(state, rest, out),
         Verb::Parent => parent(state, rest, out),
         Verb::Meet => meeting(state, rest, out),
+        Verb::Code => code(state, rest, out),
+        Verb::Word => word(state, rest, out),
     }
 }

@@ -1,5 +1,6 @@
 // Reads a job script from standard input, one command a line, and prints each command and its answer.
 mod answer;
+mod codes;
 mod hosts;
 mod line;
 mod parts;

@@ -1,4 +1,5 @@
 // What a script has at hand.
+use crate::codes::Coding;
 use std::alloc::Global;
 use trees::rule::RuleHost;
 
@@ -14,6 +15,7 @@ pub enum Source {
 pub struct State {
     pub heap: Global,
     pub source: Source,
+    pub coding: Coding,
 }
 
 impl State {
@@ -21,6 +23,7 @@ impl State {
         State {
             heap,
             source: Source::Absent,
+            coding: Coding::GilbertMoore,
         }
     }
 }

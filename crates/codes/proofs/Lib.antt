@@ -1,0 +1,5 @@
+pub mod Accepting
+pub mod Answering
+pub mod Shifts
+pub mod Descents
+pub mod Filled

@@ -1,0 +1,12 @@
+pub mod Words
+pub mod Weighing
+pub mod Coding
+pub mod Gilbert
+pub mod Halves
+pub mod Rows
+pub mod Theorems
+pub mod Forks
+pub mod Sums
+pub mod Midpoints
+pub mod Splits
+pub mod Laws
