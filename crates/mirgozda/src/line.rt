@@ -1,10 +1,20 @@
-// The words of a line, and the numbers among them.
+// The words of a line, the numbers and bytes among them, and answers that many commands have.
 use std::alloc::AllocError;
 use std::alloc::Global;
+use std::io;
+use std::io::Write;
 use texts::number;
 
 // The greatest number that a script may write where nothing else is said.
 const MOST_NUMBER: u32 = 65_535;
+
+pub fn not_understood(out: &mut Vec<u8>) -> io::Result<()> {
+    writeln!(out, "not understood")
+}
+
+pub fn say_refused(number: u8, out: &mut Vec<u8>) -> io::Result<()> {
+    writeln!(out, "refused {number}")
+}
 
 // Whether a line is passed over: it is empty, has spaces only, or begins with `#`.
 pub fn is_passed_over(line: &[u8]) -> bool {
@@ -45,4 +55,29 @@ pub fn small_numbers(heap: Global, words: &[&str]) -> Result<Option<Vec<u16>>, A
         }
     }
     Ok(Some(all))
+}
+
+// The value of a hexadecimal digit.
+fn hex_value(b: u8) -> Option<u8> {
+    match b {
+        b'0'..=b'9' => Some(b - b'0'),
+        b'a'..=b'f' => Some(b - b'a' + 10),
+        _ => None,
+    }
+}
+
+// The bytes of a word of hexadecimal digits, two to a byte, or None where it is malformed.
+pub fn hex_bytes(heap: Global, word: &str) -> Result<Option<Vec<u8>>, AllocError> {
+    let digits = word.as_bytes();
+    if digits.len() % 2 == 1 {
+        return Ok(None);
+    }
+    let mut bytes = Vec::with_capacity(heap, digits.len() / 2)?;
+    for pair in digits.chunks_exact(2) {
+        match (hex_value(pair[0]), hex_value(pair[1])) {
+            (Some(high), Some(low)) => bytes.push((high & 15) * 16 + (low & 15))?,
+            _ => return Ok(None),
+        }
+    }
+    Ok(Some(bytes))
 }

@@ -1,13 +1,15 @@
 // Reads a job script from standard input, one command a line, and prints each command and its answer.
 mod answer;
-mod codes;
+mod coding;
 mod hosts;
 mod line;
 mod parts;
+mod scans;
 mod state;
 
 use answer::carry_out;
 use line::is_passed_over;
+use line::not_understood;
 use line::split_words;
 use state::State;
 use std::io;
@@ -32,7 +34,7 @@ fn answer_words(
     out: &mut Vec<u8>,
 ) -> io::Result<()> {
     let Ok(text) = std::str::from_utf8(line) else {
-        return writeln!(out, "not understood");
+        return not_understood(out);
     };
     let words = split_words(state.heap, text)?;
     carry_out(rt, state, words.as_slice(), out)

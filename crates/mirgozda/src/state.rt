@@ -1,5 +1,5 @@
 // What a script has at hand.
-use crate::codes::Coding;
+use crate::coding::Coding;
 use std::alloc::Global;
 use trees::rule::RuleHost;
 

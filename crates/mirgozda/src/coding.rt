@@ -1,4 +1,8 @@
-// The codes of a script, and the words that they give.
+// The commands on codes: they choose one, and ask for words.
+use crate::line::not_understood;
+use crate::line::say_refused;
+use crate::line::small_numbers;
+use crate::state::State;
 use codes::bisection::Bisection;
 use codes::bisection::BisectionCode;
 use codes::code::CodeRefusal;
@@ -48,8 +52,33 @@ fn add_bits(word: Word, out: &mut Vec<u8>) -> io::Result<()> {
     Ok(())
 }
 
-pub fn say_word(word: Word, out: &mut Vec<u8>) -> io::Result<()> {
+fn say_word(word: Word, out: &mut Vec<u8>) -> io::Result<()> {
     out.write_all(b"word ")?;
     add_bits(word, out)?;
     out.write_all(b"\n")
+}
+
+pub fn code(state: &mut State, rest: &[&str], out: &mut Vec<u8>) -> io::Result<()> {
+    let [name] = rest else {
+        return not_understood(out);
+    };
+    let Some(coding) = Coding::by_name(name) else {
+        return not_understood(out);
+    };
+    state.coding = coding;
+    let name = coding.name();
+    writeln!(out, "code: {name}")
+}
+
+pub fn word(state: &State, rest: &[&str], out: &mut Vec<u8>) -> io::Result<()> {
+    let Some(numbers) = small_numbers(state.heap, rest)? else {
+        return not_understood(out);
+    };
+    let [index, weights @ ..] = numbers.as_slice() else {
+        return not_understood(out);
+    };
+    match state.coding.word(weights, usize::from(*index)) {
+        Ok(word) => say_word(word, out),
+        Err(refusal) => say_refused(refusal.number(), out),
+    }
 }

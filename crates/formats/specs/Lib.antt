@@ -1,0 +1,11 @@
+pub mod Limits
+pub mod Label
+pub mod Layout
+pub mod Words
+pub mod Faults
+pub mod Numbers
+pub mod Models
+pub mod Cuts
+pub mod Pairs
+pub mod Queries
+pub mod Theorems

@@ -1,0 +1,4 @@
+pub mod Puts
+pub mod Shown
+pub mod Showing
+pub mod Bools
