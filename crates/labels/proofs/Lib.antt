@@ -1,0 +1,14 @@
+pub mod Sums
+pub mod Sizes
+pub mod Those
+pub mod Paths
+pub mod Weighing
+pub mod Labels
+pub mod Short
+pub mod Shape
+pub mod Meeting
+pub mod Covering
+pub mod Tags
+pub mod Groups
+pub mod Sheet
+pub mod Computed

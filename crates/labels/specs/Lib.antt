@@ -1,0 +1,11 @@
+pub mod Sizes
+pub mod Paths
+pub mod Labels
+pub mod Sheet
+pub mod Looking
+pub mod Meanings
+pub mod Lists
+pub mod Bounds
+pub mod Covers
+pub mod Groups
+pub mod Small
