@@ -14,11 +14,11 @@ use Rattle.std.proofs.shelf.Tests.{cases-bool}
 use Rattle.trees.specs.Tree.{Tree}
 use Rattle.trees.specs.Above.{opt, depth-of}
 use Rattle.trees.proofs.Upward.{child, upward, rise-none, rise-some, depth-some}
-use Rattle.labels.specs.Sizes.{size, heavy, is-heavy, light-size, light-children}
+use Rattle.labels.specs.Sizes.{size, heavy, is-heavy, is-light, light-size, light-children}
 use Rattle.labels.specs.Paths.{top, place, path-from, heavy-path}
 use Rattle.labels.specs.Labels.{turn}
 use Rattle.labels.specs.Meanings.{Paths-mean}
-use Rattle.labels.proofs.Sizes.{heavy-child, heavy-is, heavy-test, light-child, light-not, light-rest}
+use Rattle.labels.proofs.Sizes.{heavy-child, heavy-is, heavy-test, light-child, light-not, light-test, light-rest}
 use Rattle.labels.proofs.Those.{those-at}
 
 module _ {parent : ℕ → Option ℕ} {n : ℕ} (T : Tree parent n) where
@@ -56,6 +56,18 @@ module _ {parent : ℕ → Option ℕ} {n : ℕ} (T : Tree parent n) where
       (λ v e. let a = top-none v e in omega arith)
       (λ v p e t ih. let a = top-heavy v p e t in let l = child T v p e .0 in omega arith)
       (λ v p e t ih. let a = top-light v p e t in omega arith)
+
+  -- a top that has a parent is a light child
+  top-child : (v p : ℕ) → parent (top parent n v) ≡ Some p → is-light parent n p (top parent n v) ≡ true
+  top-child =
+      cases-in (λ v. (p : ℕ) → parent (top parent n v) ≡ Some p → is-light parent n p (top parent n v) ≡ true)
+      (λ v e p f. let g : parent v ≡ Some p = rw (top-none v e .0) at f in let z : _≡_ {A = ℕ} 0 1 = cc in absurd (omega arith))
+      (λ v q e t ih p f. rw (top-heavy v q e t .0) (ih p (rw (top-heavy v q e t .0) at f)))
+      (λ v q e t ih p f.
+      let g : parent v ≡ Some p = rw (top-light v q e t .0) at f in
+      let s : q ≡ p = cc in
+      let b : is-heavy parent n p v ≡ false = rw s at t in
+      rw (top-light v q e t .0) (light-test T p v g b))
 
   -- a node stands as far below the top of its path as its place says
   pub depth-place : (v : ℕ) → depth-of parent v ≡ depth-of parent (top parent n v) + place parent n v
@@ -167,6 +179,7 @@ module _ {parent : ℕ → Option ℕ} {n : ℕ} (T : Tree parent n) where
         top-root = top-none 0 (T .root) .0;
         top-heavy = λ v p e. top-heavy v p (heavy-child T p v e) (heavy-test T p v e) .0;
         top-light = λ v p t. top-light v p (light-child T p v t) (light-not T p v t) .0;
+        top-child = top-child;
         placed = λ v l. placed v n;
         in-turn = λ p c t. those-at n c n _ t (child T c p (light-child T p c t) .1);
       }

@@ -10,12 +10,15 @@ use Rattle.std.specs.declared.option.Option.{Option}
 use Rattle.std.proofs.shelf.Elements.{all-map, all-weaker}
 use Rattle.std.proofs.shelf.Lists.{length-map, getD-map}
 use Rattle.std.proofs.shelf.Sums.{sum-map}
+use Rattle.std.specs.declared.result.Result.the-variants.{Ok}
+use Rattle.std.proofs.shelf.Tests.{cond-true}
 use Rattle.trees.specs.Tree.{Tree}
 use Rattle.trees.proofs.Upward.{child}
 use Rattle.codes.specs.declared.word.Word.{Word}
 use Rattle.codes.specs.Words.{bits, Fit, Before}
-use Rattle.codes.specs.Weighing.{Weights}
-use Rattle.codes.specs.Coding.{Lawful, Balanced}
+use Rattle.codes.specs.Weighing.{Weights, accepts}
+use Rattle.codes.specs.Coding.{answer, Lawful, Balanced}
+use Rattle.codes.proofs.Accepting.{accepts-yes}
 use Rattle.labels.specs.Sizes.{those, size, is-light, light-children, light-size}
 use Rattle.labels.specs.Paths.{top, place, heavy-path}
 use Rattle.labels.specs.Labels.{path-weights, branch-weights, turn, path-word, branch-word}
@@ -96,17 +99,42 @@ module _ {parent : ℕ → Option ℕ} {n : ℕ} (T : Tree parent n) where
           unfold branch-weights light-children in all-map (λ w. 1 ≤ w) (size parent n) (those n (is-light parent n p))
           (those-all (λ x. 1 ≤ size parent n x) n (is-light parent n p) (λ x e. size-some T x (child T x p (light-child T p x e) .1)))
 
+  top-in : (v : ℕ) → v < n → top parent n v < n
+  top-in v l = let a = top-le T v in omega arith
+
+  path-answered :
+      (word : List ℕ → ℕ → Word) (v : ℕ) → v < n
+      → answer word (path-weights parent n (top parent n v)) (place parent n v) ≡ Ok (path-word parent n word v)
+  unfolding path-word
+  path-answered word v l =
+      cond-true (accepts (path-weights parent n (top parent n v)) (place parent n v)) _ _ (accepts-yes _ _ (path-fine (top parent n v) (top-in v l)) (path-inside v))
+
+  branch-answered :
+      (word : List ℕ → ℕ → Word) (p c : ℕ) → is-light parent n p c ≡ true
+      → answer word (branch-weights parent n p) (turn parent n p c) ≡ Ok (branch-word parent n word p c)
+  unfolding branch-word
+  branch-answered word p c t = cond-true (accepts (branch-weights parent n p) (turn parent n p c)) _ _ (accepts-yes _ _ (branch-fine p c t) (branch-inside p c t))
+
   pub accepted : Accepted parent n
   accepted =
       record {
-        paths = record { accepted = path-fine; total = path-total; inside = λ v l. path-inside v; weight = λ v l. path-weight v };
-        branches = record { accepted = branch-fine; total = branch-total; inside = branch-inside; weight = branch-weight };
+        paths = record {
+          accepted = path-fine;
+          total = path-total;
+          inside = λ v l. path-inside v;
+          weight = λ v l. path-weight v;
+          answered = path-answered;
+        };
+        branches = record {
+          accepted = branch-fine;
+          total = branch-total;
+          inside = branch-inside;
+          weight = branch-weight;
+          answered = branch-answered;
+        };
       }
 
   -- ---- words
-
-  top-in : (v : ℕ) → v < n → top parent n v < n
-  top-in v l = let a = top-le T v in omega arith
 
   module _ {word : List ℕ → ℕ → Word} (L : Lawful word) where
     pub path-fit : (v : ℕ) → v < n → Fit (path-word parent n word v)

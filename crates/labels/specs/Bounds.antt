@@ -30,7 +30,7 @@ most-label-fields = 29
 abbrev pub most-label-bits : ℕ
 most-label-bits = 928
 
--- a light child's size is at most half of what its parent's leaves once the parent itself is taken away
+-- a light child's size is at most half of its parent's size less one
 abbrev pub Light-halves : Type 0
 Light-halves =
     (parent : ℕ → Option ℕ) (n : ℕ) → Tree parent n → (p c : ℕ) → is-light parent n p c ≡ true → 2 * size parent n c ≤ size parent n p - 1

@@ -31,13 +31,14 @@ pub record Heavy-means (parent : ℕ → Option ℕ) (n : ℕ) : Type 0 where
   pub rest : (v h : ℕ) → heavy parent n v ≡ Some h → light-size parent n v + size parent n h ≡ size parent n v
   pub whole : (v : ℕ) → heavy parent n v ≡ None → light-size parent n v ≡ size parent n v
 
--- a path goes from heavy child to heavy child down to a leaf; the root and each light child are tops, and a heavy child is on its
--- parent's path; a node's place is where it stands on its path, a light child's turn where it stands among its parent's light children
+-- a path goes from heavy child to heavy child down to a leaf; the root and each light child are tops, and no other node is; a heavy
+-- child is on its parent's path; a node's place is where it stands on its path, a light child's turn where it stands among its parent's light children
 pub record Paths-mean (parent : ℕ → Option ℕ) (n : ℕ) : Type 0 where
   pub onward : (t : ℕ) → t < n → heavy-path parent n t ≡ t ∷ opt [] (λ h. heavy-path parent n h) (heavy parent n t)
   pub top-root : top parent n 0 ≡ 0
   pub top-heavy : (v p : ℕ) → heavy parent n p ≡ Some v → top parent n v ≡ top parent n p
   pub top-light : (v p : ℕ) → is-light parent n p v ≡ true → top parent n v ≡ v
+  pub top-child : (v p : ℕ) → parent (top parent n v) ≡ Some p → is-light parent n p (top parent n v) ≡ true
   pub placed : (v : ℕ) → v < n → getD (heavy-path parent n (top parent n v)) (place parent n v) n ≡ v
   pub in-turn : (p c : ℕ) → is-light parent n p c ≡ true → getD (light-children parent n p) (turn parent n p c) n ≡ c
 
