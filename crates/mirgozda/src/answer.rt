@@ -2,6 +2,7 @@
 use crate::coding;
 use crate::hosts;
 use crate::line::not_understood;
+use crate::pressing;
 use crate::scans;
 use crate::scans::Query;
 use crate::state::State;
@@ -25,6 +26,11 @@ enum Verb {
     Difference,
     Cover,
     Relate,
+    Press,
+    Sheet,
+    Save,
+    Load,
+    Tag,
 }
 
 fn verb_of(name: &str) -> Option<Verb> {
@@ -44,6 +50,11 @@ fn verb_of(name: &str) -> Option<Verb> {
         "difference" => Some(Verb::Difference),
         "cover" => Some(Verb::Cover),
         "relate" => Some(Verb::Relate),
+        "press" => Some(Verb::Press),
+        "sheet" => Some(Verb::Sheet),
+        "save" => Some(Verb::Save),
+        "load" => Some(Verb::Load),
+        "tag" => Some(Verb::Tag),
         _ => None,
     }
 }
@@ -77,5 +88,10 @@ pub fn carry_out(
         Verb::Difference => scans::on_two(state, Query::Difference, rest, out),
         Verb::Cover => scans::on_two(state, Query::Cover, rest, out),
         Verb::Relate => scans::on_two(state, Query::Relate, rest, out),
+        Verb::Press => pressing::pressing(state, rest, out),
+        Verb::Sheet => pressing::show_sheet(state, rest, out),
+        Verb::Save => pressing::save(rt, state, rest, out),
+        Verb::Load => pressing::load(rt, state, rest, out),
+        Verb::Tag => pressing::show_tag(state, rest, out),
     }
 }

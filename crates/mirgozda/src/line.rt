@@ -8,6 +8,9 @@ use texts::number;
 // The greatest number that a script may write where nothing else is said.
 const MOST_NUMBER: u32 = 65_535;
 
+// The greatest count of numbers or bytes that a script may hand in.
+const MOST_ROOM: u32 = 1_000_000_000;
+
 pub fn not_understood(out: &mut Vec<u8>) -> io::Result<()> {
     writeln!(out, "not understood")
 }
@@ -35,6 +38,11 @@ pub fn split_words<'a>(heap: Global, line: &'a str) -> Result<Vec<&'a str>, Allo
         }
     }
     Ok(words)
+}
+
+// A number of at most a thousand millions: how much memory is to be handed in.
+pub fn large_number(word: &str) -> Option<u32> {
+    number(word.as_bytes(), MOST_ROOM)
 }
 
 // A number of at most 65,535.
@@ -66,9 +74,8 @@ fn hex_value(b: u8) -> Option<u8> {
     }
 }
 
-// The bytes of a word of hexadecimal digits, two to a byte, or None where it is malformed.
-pub fn hex_bytes(heap: Global, word: &str) -> Result<Option<Vec<u8>>, AllocError> {
-    let digits = word.as_bytes();
+// The bytes of hexadecimal digits, two to a byte, or None where they are malformed.
+fn hex_bytes(heap: Global, digits: &[u8]) -> Result<Option<Vec<u8>>, AllocError> {
     if digits.len() % 2 == 1 {
         return Ok(None);
     }
@@ -80,4 +87,33 @@ pub fn hex_bytes(heap: Global, word: &str) -> Result<Option<Vec<u8>>, AllocError
         }
     }
     Ok(Some(bytes))
+}
+
+// A tag as a script writes it: its bytes, or a node of the present sheet.
+#[derive(Drop)]
+pub enum TagWord {
+    Bytes(Vec<u8>),
+    Node(u16),
+}
+
+// A word that stands for a tag: hexadecimal, or `@` and a node number.
+pub fn tag_word(heap: Global, word: &str) -> Result<Option<TagWord>, AllocError> {
+    match word.as_bytes() {
+        [b'@', digits @ ..] => match number(digits, MOST_NUMBER) {
+            Some(v) => Ok(Some(TagWord::Node((v & 0xffff) as u16))),
+            None => Ok(None),
+        },
+        digits => match hex_bytes(heap, digits)? {
+            Some(bytes) => Ok(Some(TagWord::Bytes(bytes))),
+            None => Ok(None),
+        },
+    }
+}
+
+// Adds bytes as hexadecimal digits.
+pub fn add_hex(bytes: &[u8], out: &mut Vec<u8>) -> io::Result<()> {
+    for b in bytes {
+        write!(out, "{b:02x}")?;
+    }
+    Ok(())
 }

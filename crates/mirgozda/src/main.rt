@@ -4,6 +4,7 @@ mod coding;
 mod hosts;
 mod line;
 mod parts;
+mod pressing;
 mod scans;
 mod state;
 

@@ -1,8 +1,11 @@
 // The commands on tags, as a scanner gives them.
-use crate::line::hex_bytes;
+use crate::line::TagWord;
+use crate::line::add_hex;
 use crate::line::not_understood;
 use crate::line::say_refused;
 use crate::line::small_number;
+use crate::line::tag_word;
+use crate::pressing::looked_up;
 use crate::state::State;
 use formats::answers::Difference;
 use formats::answers::Related;
@@ -18,14 +21,6 @@ use tags::queries::cover;
 use tags::queries::difference;
 use tags::queries::relate;
 use tags::tag::Tag;
-
-// Adds bytes as hexadecimal digits.
-fn add_hex(bytes: &[u8], out: &mut Vec<u8>) -> io::Result<()> {
-    for b in bytes {
-        write!(out, "{b:02x}")?;
-    }
-    Ok(())
-}
 
 fn say_tag(bytes: &[u8], out: &mut Vec<u8>) -> io::Result<()> {
     out.write_all(b"tag ")?;
@@ -161,13 +156,24 @@ fn say_relate(first: &[u8], second: &[u8], out: &mut Vec<u8>) -> io::Result<()> 
     }
 }
 
+// The bytes that a word stands for; where there are none, that is the answer.
+fn tag_of(state: &State, word: TagWord, out: &mut Vec<u8>) -> io::Result<Option<Vec<u8>>> {
+    match word {
+        TagWord::Bytes(bytes) => Ok(Some(bytes)),
+        TagWord::Node(v) => looked_up(state, v, out),
+    }
+}
+
 pub fn read(state: &State, rest: &[&str], out: &mut Vec<u8>) -> io::Result<()> {
     let [word] = rest else {
         return not_understood(out);
     };
-    match hex_bytes(state.heap, word)? {
+    let Some(word) = tag_word(state.heap, word)? else {
+        return not_understood(out);
+    };
+    match tag_of(state, word, out)? {
         Some(tag) => say_read(tag.as_slice(), out),
-        None => not_understood(out),
+        None => Ok(()),
     }
 }
 
@@ -182,12 +188,15 @@ fn cut_into(
     let Some(m) = small_number(fields) else {
         return not_understood(out);
     };
-    match hex_bytes(state.heap, tag)? {
+    let Some(word) = tag_word(state.heap, tag)? else {
+        return not_understood(out);
+    };
+    match tag_of(state, word, out)? {
         Some(bytes) => {
             let mut space = vec![in state.heap; 0u8; room]?;
             say_cut(bytes.as_slice(), usize::from(m), space.as_mut_slice(), out)
         }
-        None => not_understood(out),
+        None => Ok(()),
     }
 }
 
@@ -214,11 +223,17 @@ pub fn on_two(state: &State, query: Query, rest: &[&str], out: &mut Vec<u8>) -> 
     let [first, second] = rest else {
         return not_understood(out);
     };
-    let Some(first) = hex_bytes(state.heap, first)? else {
+    let Some(first) = tag_word(state.heap, first)? else {
         return not_understood(out);
     };
-    let Some(second) = hex_bytes(state.heap, second)? else {
+    let Some(second) = tag_word(state.heap, second)? else {
         return not_understood(out);
+    };
+    let Some(first) = tag_of(state, first, out)? else {
+        return Ok(());
+    };
+    let Some(second) = tag_of(state, second, out)? else {
+        return Ok(());
     };
     match query {
         Query::Difference => say_difference(first.as_slice(), second.as_slice(), out),

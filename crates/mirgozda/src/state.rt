@@ -16,6 +16,7 @@ pub struct State {
     pub heap: Global,
     pub source: Source,
     pub coding: Coding,
+    pub sheet: Option<Vec<u8>>,
 }
 
 impl State {
@@ -24,6 +25,7 @@ impl State {
             heap,
             source: Source::Absent,
             coding: Coding::GilbertMoore,
+            sheet: None,
         }
     }
 }

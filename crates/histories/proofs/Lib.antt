@@ -1,0 +1,10 @@
+pub mod Local
+pub mod Nodes
+pub mod Stood
+pub mod Sheet
+pub mod Vain
+pub mod Whole
+pub mod Reading
+pub mod Pinning
+pub mod Small
+pub mod Wrong

@@ -1,0 +1,4 @@
+pub mod Model
+pub mod Told
+pub mod Promises
+pub mod Wrong

@@ -1,0 +1,10 @@
+pub mod Runs
+pub mod Walks
+pub mod Trees
+pub mod PathRows
+pub mod BranchRows
+pub mod LinkRows
+pub mod Handing
+pub mod Grown
+pub mod Labelled
+pub mod Bridge

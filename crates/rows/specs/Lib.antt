@@ -1,0 +1,4 @@
+pub mod Chains
+pub mod Rows
+pub mod Even
+pub mod Marked

@@ -1,0 +1,4 @@
+pub mod Looked
+pub mod Pages
+pub mod Pressed
+pub mod Promised

@@ -1,0 +1,4 @@
+pub mod Numbers
+pub mod Pressing
+pub mod LookingUp
+pub mod Promises

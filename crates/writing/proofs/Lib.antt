@@ -1,0 +1,4 @@
+pub mod Puts
+pub mod Packing
+pub mod Tagged
+pub mod Sheeted

@@ -1,0 +1,4 @@
+pub mod Writes
+pub mod Bits
+pub mod Tags
+pub mod Sheets
