@@ -1,4 +1,6 @@
 // The format of tags, as mathematics: what a tag says, its bytes, and what two tags say of each other.
+#![tactic(auto)]
+
 pub mod answers;
 pub mod fault;
 pub mod theorems;

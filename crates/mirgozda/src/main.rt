@@ -1,4 +1,6 @@
 // Reads a job script from standard input, one command a line, and prints each command and its answer.
+#![tactic(auto)]
+
 mod answer;
 mod coding;
 mod drawer;

@@ -1,4 +1,6 @@
 // Tags: the reader, fields, cut, and the queries on two tags.
+#![tactic(auto)]
+
 pub mod cut;
 pub mod field;
 mod layout;

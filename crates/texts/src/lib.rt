@@ -1,4 +1,6 @@
 // What a job script and a parts list are made of: numbers, lines, and the level that a line of a parts list begins with.
+#![tactic(auto)]
+
 ghost use Rattle.std.specs.Prelude.{◌≡◌};
 ghost use Rattle.std.specs.List.{prefix_len};
 ghost use Rattle.texts.specs.Numbers.{is_digit, one_more, number_of};

@@ -1,4 +1,6 @@
 // Trees of parts and the hosts that answer for them.
+#![tactic(auto)]
+
 pub mod climb;
 pub mod host;
 pub mod indented;

@@ -1,5 +1,7 @@
 // Tags and sheets, written from the rows. This crate is internal to `sheets`: its functions are public only because that crate calls
 // them, and what they require is shown there.
+#![tactic(auto)]
+
 mod bits;
 mod bytes;
 pub mod sheeting;
