@@ -4,17 +4,17 @@ use Rattle.std.proofs.lemmas.List.Sums.{prefix_len-le-length}
 use Rattle.texts.specs.Lines.{in_line}
 use Rattle.texts.proofs.split_line.Goals as goal
 
-pub slice-bounds-result-count-else-n-text : goal.slice-bounds-result-count-else-n-text
-slice-bounds-result-count-else-n-text c = let l = prefix_len-le-length in_line c.args.text.now in omega (arith, c.line-length-n.ensures)
+pub slice_bounds-result-count-else-n-text : goal.slice_bounds-result-count-else-n-text
+slice_bounds-result-count-else-n-text c = let l = prefix_len-le-length in_line c.args.text.now in omega (arith, c.line_length-n.ensures)
 
-pub slice-bounds-result-start-else-n-text : goal.slice-bounds-result-start-else-n-text
-slice-bounds-result-start-else-n-text c = let l = prefix_len-le-length in_line c.args.text.now in omega (arith, c.line-length-n.ensures)
+pub slice_bounds-result-start-else-n-text : goal.slice_bounds-result-start-else-n-text
+slice_bounds-result-start-else-n-text c = let l = prefix_len-le-length in_line c.args.text.now in omega (arith, c.line_length-n.ensures)
 
 pub returns-then-n-text : goal.returns-then-n-text
 returns-then-n-text c =
     let xs = c.args.text.now in
-    let n = c.line-length-n.result in
-    let e = c.line-length-n.ensures in
+    let n = c.line_length-n.result in
+    let e = c.line_length-n.ensures in
     let s : n - 0 ≡ n = omega arith in
     record {
       line = ap (λ k. take k xs) (s ∙ e);
@@ -24,8 +24,8 @@ returns-then-n-text c =
 pub returns-else-n-text : goal.returns-else-n-text
 returns-else-n-text c =
     let xs = c.args.text.now in
-    let n = c.line-length-n.result in
-    let e = c.line-length-n.ensures in
+    let n = c.line_length-n.result in
+    let e = c.line_length-n.ensures in
     record {
       line = sym (ap (λ k. take k xs) (sym e) ∙ take_all n xs c.if-n-text.false);
       rest =

@@ -4,22 +4,22 @@ use Rattle.codes.specs.Midpoints.{short}
 use Rattle.codes.proofs.Shifts.{shift_room, shift_is, value_fits}
 use Rattle.codes.proofs.gilbert_moore.middle.Goals as goal
 
-room : (c : goal.In-loop-scaled) → c.loop-scaled.shift ≤ 14
+room : (c : goal.In-Loop-scaled) → c.loop-scaled.shift ≤ 14
 room c = shift_room c.args.weight c.args.total c.loop-scaled.shift (omega arith) (omega arith) (omega arith)
 
-pub overflow-mul-value-in-loop-scaled : goal.overflow-mul-value-in-loop-scaled
-overflow-mul-value-in-loop-scaled c = omega (arith, value_fits (2 * c.args.before + c.args.weight) c.loop-scaled.shift (omega arith) (room c))
+pub overflow_mul-value-in-loop-scaled : goal.overflow_mul-value-in-loop-scaled
+overflow_mul-value-in-loop-scaled c = omega (arith, value_fits (2 * c.args.before + c.args.weight) c.loop-scaled.shift (omega arith) (room c))
 
-pub overflow-add-shift : goal.overflow-add-shift
-overflow-add-shift c = omega (arith, room c)
+pub overflow_add-shift : goal.overflow_add-shift
+overflow_add-shift c = omega (arith, room c)
 
 pub loop-scaled-preserved : goal.loop-scaled-preserved
 loop-scaled-preserved c =
     let e : 2 ^ (c.loop-scaled.shift + 1) ≡ 2 ^ c.loop-scaled.shift * 2 = pow-add 2 c.loop-scaled.shift 1 in
     rw e (omega arith)
 
-pub overflow-add-result : goal.overflow-add-result
-overflow-add-result c = omega (arith, short c.args.weight c.args.total c.loop-scaled.shift (omega arith) (omega arith) (omega arith))
+pub overflow_add-result : goal.overflow_add-result
+overflow_add-result c = omega (arith, short c.args.weight c.args.total c.loop-scaled.shift (omega arith) (omega arith) (omega arith))
 
 pub returns : goal.returns
 returns c =

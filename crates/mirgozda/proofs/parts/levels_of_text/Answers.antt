@@ -14,29 +14,29 @@ loop-init c =
 pub returns-in-None : goal.returns-in-None
 returns-in-None c =
     let t =
-    taken (length c.args.text.now) c.loop.counter c.loop.rest.now c.trim-return-line.result.now c.split-line.result.1.now
-    c.loop-test.true (c.trim-return-line.ensures ∙ ap without_return c.split-line.ensures.line) c.split-line.ensures.rest
-    None (sym c.is_empty.ensures ∙ c.if-is-empty.false) c.in-None.ensures in
+    taken (length c.args.text.now) c.loop.counter c.loop.rest.now c.trim_return-line.result.now c.split_line.result.1.now
+    c.loop-test.true (c.trim_return-line.ensures ∙ ap without_return c.split_line.ensures.line) c.split_line.ensures.rest
+    None (sym c.is_empty.ensures ∙ c.if-is_empty.false) c.in-None.ensures in
     sym (ap (after (vec_items c.loop.all)) t) ∙ c.loop.invariant
 
-pub loop-preserved-then-is-empty : goal.loop-preserved-then-is-empty
-loop-preserved-then-is-empty c =
+pub loop-preserved-then-is_empty : goal.loop-preserved-then-is_empty
+loop-preserved-then-is_empty c =
     let t =
-    skipped (length c.args.text.now) c.loop.counter c.loop.rest.now c.trim-return-line.result.now c.split-line.result.1.now
-    c.loop-test.true (c.trim-return-line.ensures ∙ ap without_return c.split-line.ensures.line) c.split-line.ensures.rest
-    (sym c.is_empty.ensures ∙ c.if-is-empty.true) in
+    skipped (length c.args.text.now) c.loop.counter c.loop.rest.now c.trim_return-line.result.now c.split_line.result.1.now
+    c.loop-test.true (c.trim_return-line.ensures ∙ ap without_return c.split_line.ensures.line) c.split_line.ensures.rest
+    (sym c.is_empty.ensures ∙ c.if-is_empty.true) in
     sym (ap (after (vec_items c.loop.all)) t) ∙ c.loop.invariant
 
 pub loop-preserved : goal.loop-preserved
 loop-preserved c =
     let n = length c.args.text.now in
     let i = c.loop.counter in
-    let more = c.split-line.result.1.now in
+    let more = c.split_line.result.1.now in
     let t =
-    taken n i c.loop.rest.now c.trim-return-line.result.now more
-    c.loop-test.true (c.trim-return-line.ensures ∙ ap without_return c.split-line.ensures.line) c.split-line.ensures.rest
-    (Some c.in-Some.n) (sym c.is_empty.ensures ∙ c.if-is-empty.false) c.in-Some.ensures in
-    ap (λ xs. after xs (levels_of (n - (i + 1)) more)) c.in-ok-push.ensures.items
+    taken n i c.loop.rest.now c.trim_return-line.result.now more
+    c.loop-test.true (c.trim_return-line.ensures ∙ ap without_return c.split_line.ensures.line) c.split_line.ensures.rest
+    (Some c.in-Some.n) (sym c.is_empty.ensures ∙ c.if-is_empty.false) c.in-Some.ensures in
+    ap (λ xs. after xs (levels_of (n - (i + 1)) more)) c.in_ok-push.ensures.items
     ∙ (after_one (vec_items c.loop.all) c.in-Some.n (levels_of (n - (i + 1)) more)
     ∙ (sym (ap (after (vec_items c.loop.all)) t) ∙ c.loop.invariant))
 

@@ -13,18 +13,18 @@ pub lights-requires : goal.lights-requires
 lights-requires g c =
     record { rooted = c.requires.rooted; sizes = omega arith; heavies = omega arith; room = omega arith; sized = c.sizes.ensures; chosen = c.heavies.ensures }
 
-pub path-words-requires : goal.path-words-requires
-path-words-requires g c =
+pub path_words-requires : goal.path_words-requires
+path_words-requires g c =
     record { rooted = c.requires.rooted; heavies = omega arith; lights = omega arith; room = omega arith; highs = omega arith; lows = omega arith; lens = omega arith; chosen = c.heavies.ensures; weighed = c.lights.ensures }
 
-pub link-light-requires : goal.link-light-requires
-link-light-requires g c =
+pub link_light-requires : goal.link_light-requires
+link_light-requires g c =
     record { rooted = c.requires.rooted; heavies = omega arith; firsts = omega arith; nexts = omega arith; chosen = c.heavies.ensures }
 
-pub branch-words-requires : goal.branch-words-requires
-branch-words-requires g c =
-    record { rooted = c.requires.rooted; sizes = omega arith; firsts = omega arith; nexts = omega arith; room = omega arith; highs = omega arith; lows = omega arith; lens = omega arith; sized = c.sizes.ensures; rising = c.link-light.ensures.rising; linked = c.link-light.ensures.linked; inside = c.link-light.ensures.inside }
+pub branch_words-requires : goal.branch_words-requires
+branch_words-requires g c =
+    record { rooted = c.requires.rooted; sizes = omega arith; firsts = omega arith; nexts = omega arith; room = omega arith; highs = omega arith; lows = omega arith; lens = omega arith; sized = c.sizes.ensures; rising = c.link_light.ensures.rising; linked = c.link_light.ensures.linked; inside = c.link_light.ensures.inside }
 
 pub returns : goal.returns
 returns g c =
-    record { chosen = c.heavies.ensures; paths = c.path-words.ensures; branches = c.branch-words.ensures }
+    record { chosen = c.heavies.ensures; paths = c.path_words.ensures; branches = c.branch_words.ensures }

@@ -9,8 +9,8 @@ use Rattle.rows.proofs.growth.lights.Goals.{then-h-eq0, else-h-eq0}
 pub bounds-size-h : goal.bounds-size-h
 bounds-size-h c = omega (arith, heavy_up c.args.up.now c.args.heavy.now c.requires.rooted c.requires.chosen c.requires.heavies c.loop-v.v (omega arith) c.if-h-eq0.false)
 
-pub overflow-sub-light : goal.overflow-sub-light
-overflow-sub-light c = light_rest_fits c.args.up.now c.args.size.now c.args.heavy.now c.requires.rooted c.requires.sized c.requires.chosen c.requires.heavies c.loop-v.v (omega arith) c.if-h-eq0.false
+pub overflow_sub-light : goal.overflow_sub-light
+overflow_sub-light c = light_rest_fits c.args.up.now c.args.size.now c.args.heavy.now c.requires.rooted c.requires.sized c.requires.chosen c.requires.heavies c.loop-v.v (omega arith) c.if-h-eq0.false
 
 pub loop-v-preserved : goal.loop-v-preserved
 loop-v-preserved c =

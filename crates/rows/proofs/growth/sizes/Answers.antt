@@ -11,8 +11,8 @@ loop-v-init c = (
       one ∙ sym (from_all c.args.up.now w h),
 )
 
-pub overflow-add-size : goal.overflow-add-size
-overflow-add-size c =
+pub overflow_add-size : goal.overflow_add-size
+overflow_add-size c =
     omega (arith, c.requires.rooted.few, turn_fits c.args.up.now c.loop-v.size (c.loop-v.v - 1) c.loop-v.v (omega arith) c.requires.rooted.below (omega arith) (omega arith) c.loop-v.invariant.1)
 
 pub loop-v-preserved : goal.loop-v-preserved

@@ -46,18 +46,18 @@ bounds-bits-p g c =
     let A = above c.args.up.now c.requires.rooted (g.C.Code.words c.args.code.now) c.args.top.now c.args.path_high.now c.args.path_low.now c.args.path_len.now c.args.branch_high.now c.args.branch_low.now c.args.branch_len.now c.requires.topped c.requires.paths c.requires.branches c.loop-v.v (omega arith) c.if-t-eq0.false in
     omega (arith, A.below)
 
-pub bounds-branch-len-t : goal.bounds-branch-len-t
-bounds-branch-len-t g c =
+pub bounds-branch_len-t : goal.bounds-branch_len-t
+bounds-branch_len-t g c =
     let A = above c.args.up.now c.requires.rooted (g.C.Code.words c.args.code.now) c.args.top.now c.args.path_high.now c.args.path_low.now c.args.path_len.now c.args.branch_high.now c.args.branch_low.now c.args.branch_len.now c.requires.topped c.requires.paths c.requires.branches c.loop-v.v (omega arith) c.if-t-eq0.false in
     omega (arith, A.top_in)
 
-pub overflow-add-bits : goal.overflow-add-bits
-overflow-add-bits g c =
+pub overflow_add-bits : goal.overflow_add-bits
+overflow_add-bits g c =
     let A = above c.args.up.now c.requires.rooted (g.C.Code.words c.args.code.now) c.args.top.now c.args.path_high.now c.args.path_low.now c.args.path_len.now c.args.branch_high.now c.args.branch_low.now c.args.branch_len.now c.requires.topped c.requires.paths c.requires.branches c.loop-v.v (omega arith) c.if-t-eq0.false in
     omega (arith, A.bits_are c.loop-v.bits c.loop-v.invariant.0, few_bits c.args.up.now c.requires.rooted (g.C.Code.words c.args.code.now) (g.C.Code.laws c.args.code.now) c.loop-v.v (omega arith))
 
-pub overflow-add-bits-else-t-eq0 : goal.overflow-add-bits-else-t-eq0
-overflow-add-bits-else-t-eq0 g c =
+pub overflow_add-bits-else-t-eq0 : goal.overflow_add-bits-else-t-eq0
+overflow_add-bits-else-t-eq0 g c =
     let A = above c.args.up.now c.requires.rooted (g.C.Code.words c.args.code.now) c.args.top.now c.args.path_high.now c.args.path_low.now c.args.path_len.now c.args.branch_high.now c.args.branch_low.now c.args.branch_len.now c.requires.topped c.requires.paths c.requires.branches c.loop-v.v (omega arith) c.if-t-eq0.false in
     omega (arith, A.bits_are c.loop-v.bits c.loop-v.invariant.0, few_bits c.args.up.now c.requires.rooted (g.C.Code.words c.args.code.now) (g.C.Code.laws c.args.code.now) c.loop-v.v (omega arith))
 
@@ -66,7 +66,7 @@ bounds-fields-p g c =
     let A = above c.args.up.now c.requires.rooted (g.C.Code.words c.args.code.now) c.args.top.now c.args.path_high.now c.args.path_low.now c.args.path_len.now c.args.branch_high.now c.args.branch_low.now c.args.branch_len.now c.requires.topped c.requires.paths c.requires.branches c.loop-v.v (omega arith) c.if-t-eq0.false in
     omega (arith, A.below)
 
-pub overflow-add-fields : goal.overflow-add-fields
-overflow-add-fields g c =
+pub overflow_add-fields : goal.overflow_add-fields
+overflow_add-fields g c =
     let A = above c.args.up.now c.requires.rooted (g.C.Code.words c.args.code.now) c.args.top.now c.args.path_high.now c.args.path_low.now c.args.path_len.now c.args.branch_high.now c.args.branch_low.now c.args.branch_len.now c.requires.topped c.requires.paths c.requires.branches c.loop-v.v (omega arith) c.if-t-eq0.false in
     omega (arith, A.fields_are c.loop-v.fields c.loop-v.invariant.1, few_fields c.args.up.now c.requires.rooted (g.C.Code.words c.args.code.now) c.loop-v.v (omega arith))

@@ -9,8 +9,8 @@ pub loop-v-init : goal.loop-v-init
 loop-v-init c =
     stored_more (depth_of (parents_in c.args.up.now)) c.args.depth.now 0 0 (sym (depth_root c.args.up.now c.requires.rooted)) (omega arith) (λ k h. absurd (omega arith))
 
-pub overflow-add-depth : goal.overflow-add-depth
-overflow-add-depth c =
+pub overflow_add-depth : goal.overflow_add-depth
+overflow_add-depth c =
     let up = c.args.up.now in
     let b = c.requires.rooted.below c.loop-v.v (omega arith) (omega arith) in
     omega (arith, c.loop-v.invariant (at up c.loop-v.v) b, depth_low up c.requires.rooted (at up c.loop-v.v), c.requires.rooted.few)

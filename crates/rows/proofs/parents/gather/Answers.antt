@@ -6,8 +6,8 @@ use Rattle.rows.proofs.parents.gather.Goals as goal
 pub loop-v-init : goal.loop-v-init
 loop-v-init g c k a b = absurd (omega arith)
 
-pub overflow-cast-v : goal.overflow-cast-v
-overflow-cast-v g c = let t = g.H.Host.laws c.args.host.now (length c.args.up.now) c.requires.tree in omega (arith, t.few)
+pub overflow_cast-v : goal.overflow_cast-v
+overflow_cast-v g c = let t = g.H.Host.laws c.args.host.now (length c.args.up.now) c.requires.tree in omega (arith, t.few)
 
 pub unwrap-p-requires : goal.unwrap-p-requires
 unwrap-p-requires g c =

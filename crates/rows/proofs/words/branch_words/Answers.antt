@@ -8,8 +8,8 @@ use Rattle.rows.proofs.BranchRows.{BranchTo, branch_fine, branch_skip, branch_tu
 use Rattle.rows.proofs.words.branch_words.Goals as goal
 use Rattle.rows.proofs.words.branch_words.Goals.{then-c-ne0, else-c-ne0}
 
-pub code-chain-requires : goal.code-chain-requires
-code-chain-requires g c = record {
+pub code_chain-requires : goal.code_chain-requires
+code_chain-requires g c = record {
   rising = c.requires.rising;
   inside = omega (arith, c.requires.inside c.loop-p.p (omega arith));
   weighed = omega arith;
@@ -28,9 +28,9 @@ loop-p-preserved g c =
     let l : p < length up = omega arith in
     elim c.if-c-ne0.branch [
       | then-c-ne0 w ↦
-          moved (BranchTo f up (p + 1)) c.if-c-ne0.high c.if-c-ne0.low c.if-c-ne0.len w.code-chain.new.high w.code-chain.new.low w.code-chain.new.len w.high-is w.low-is w.len-is
-          (branch_turn up c.args.size.now c.args.first.now c.args.next.now c.requires.rooted c.requires.sized c.requires.linked p l f c.loop-p.high c.loop-p.low c.loop-p.len w.code-chain.new.high w.code-chain.new.low w.code-chain.new.len
-          w.if-c-ne0.true w.code-chain.ensures c.loop-p.invariant)
+          moved (BranchTo f up (p + 1)) c.if-c-ne0.high c.if-c-ne0.low c.if-c-ne0.len w.code_chain.new.high w.code_chain.new.low w.code_chain.new.len w.high-is w.low-is w.len-is
+          (branch_turn up c.args.size.now c.args.first.now c.args.next.now c.requires.rooted c.requires.sized c.requires.linked p l f c.loop-p.high c.loop-p.low c.loop-p.len w.code_chain.new.high w.code_chain.new.low w.code_chain.new.len
+          w.if-c-ne0.true w.code_chain.ensures c.loop-p.invariant)
       | else-c-ne0 w ↦
           moved (BranchTo f up (p + 1)) c.if-c-ne0.high c.if-c-ne0.low c.if-c-ne0.len c.loop-p.high c.loop-p.low c.loop-p.len w.high-is w.low-is w.len-is
           (branch_skip up c.args.size.now c.args.first.now c.args.next.now c.requires.rooted c.requires.sized c.requires.linked p l f c.loop-p.high c.loop-p.low c.loop-p.len w.if-c-ne0.false c.loop-p.invariant)

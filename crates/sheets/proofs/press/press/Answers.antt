@@ -18,12 +18,12 @@ finish-requires g c =
       nbh = omega arith;
       nbl = omega arith;
       nbn = omega arith;
-      topped = c.fill-marks.ensures.topped;
-      deep = c.fill-marks.ensures.deep;
-      counted = c.fill-marks.ensures.counted;
-      numbered = c.fill-marks.ensures.numbered;
-      paths = c.fill-words.ensures.paths;
-      branches = c.fill-words.ensures.branches;
+      topped = c.fill_marks.ensures.topped;
+      deep = c.fill_marks.ensures.deep;
+      counted = c.fill_marks.ensures.counted;
+      numbered = c.fill_marks.ensures.numbered;
+      paths = c.fill_words.ensures.paths;
+      branches = c.fill_words.ensures.branches;
     }
 
 pub returns : goal.returns
@@ -31,11 +31,11 @@ returns g c =
     let f = g.C.Code.words c.args.code.now in
     let parent = g.H.Host.parents c.args.host.now in
     let verdict = g.H.Host.verdicts c.args.host.now in
-    let n = c.in-ok-n.field-0 in
+    let n = c.in_ok-n.field-0 in
     let up = c.gather.new.up in
     let room = length c.args.out.now in
-    let e : g.H.Host.verdicts c.args.host.now ≡ Ok c.in-ok-n.field-0 = sym c.in-ok-n.ensures in
-    let many : length c.gather.new.up ≡ c.in-ok-n.field-0 = omega arith in
+    let e : g.H.Host.verdicts c.args.host.now ≡ Ok c.in_ok-n.field-0 = sym c.in_ok-n.ensures in
+    let many : length c.gather.new.up ≡ c.in_ok-n.field-0 = omega arith in
     let ne : c.args.number ≡ 0 → ⊥ = c.if-number-eq0.false in
     let same = ap₂ (λ (p : ℕ → Option ℕ) (k : ℕ). measured p f c.args.number k room) c.gather.ensures.held many in
     let whole = sym (enough_work parent f c.args.number n room verdict (length c.args.work.now) ne e c.if-work-n.false) in

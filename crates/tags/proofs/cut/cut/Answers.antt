@@ -22,8 +22,8 @@ module _ (c : After-filled) where
   within : c.args.m ≤ count_of c.args.bytes.now
   within = omega (arith, count)
 
-  size : c.head-of.result + c.filled.result ≡ cut_size c.args.bytes.now c.args.m
-  size = omega (arith, c.head-of.ensures, c.filled.ensures, c.end-of-bits.ensures)
+  size : c.head_of.result + c.filled.result ≡ cut_size c.args.bytes.now c.args.m
+  size = omega (arith, c.head_of.ensures, c.filled.ensures, c.end_of-bits.ensures)
 
   here : Span c.args.bytes.now (c.args.m - 1)
   here = span c.args.bytes.now (is_readable c.args.bytes.now fault) (c.args.m - 1) (omega (arith, within, odd))
@@ -31,7 +31,7 @@ module _ (c : After-filled) where
 pub returns-then-out-size : goal.returns-then-out-size
 returns-then-out-size c =
     let p = (goal.at.returns-then-out-size c).After-filled in
-    let small : Bytes c.args.bytes.now = λ i. omega (arith, c.type-inv.bytes i) in
+    let small : Bytes c.args.bytes.now = λ i. omega (arith, c.type_inv.bytes i) in
     let short : length c.args.out.now < cut_size c.args.bytes.now c.args.m = omega (arith, size p) in
     record {
       answer = room_answer c.args.bytes.now c.args.m small (fault p) (odd p) (within p) (length c.args.out.now) short;
@@ -39,27 +39,27 @@ returns-then-out-size c =
       reads = tt;
     }
 
-pub write-cut-requires : goal.write-cut-requires
-write-cut-requires c =
-    let p = (goal.at.write-cut-requires c).After-filled in
+pub write_cut-requires : goal.write_cut-requires
+write_cut-requires c =
+    let p = (goal.at.write_cut-requires c).After-filled in
     let s = here p in
     record {
       fields = omega arith;
-      some = omega (arith, c.end-of-bits.ensures, s.some);
-      within = omega (arith, count p, c.end-of-bits.ensures, s.inside, (is_readable c.args.bytes.now (fault p)).size);
-      room = omega (arith, c.head-of.ensures, c.filled.ensures);
+      some = omega (arith, c.end_of-bits.ensures, s.some);
+      within = omega (arith, count p, c.end_of-bits.ensures, s.inside, (is_readable c.args.bytes.now (fault p)).size);
+      room = omega (arith, c.head_of.ensures, c.filled.ensures);
     }
 
 pub returns : goal.returns
 returns c =
     let p = (goal.at.returns c).After-filled in
-    let small : Bytes c.args.bytes.now = λ i. omega (arith, c.type-inv.bytes i) in
+    let small : Bytes c.args.bytes.now = λ i. omega (arith, c.type_inv.bytes i) in
     let room : cut_size c.args.bytes.now c.args.m ≤ length c.args.out.now = omega (arith, size p) in
     let k = count p in
-    let b = c.end-of-bits.ensures in
+    let b = c.end_of-bits.ensures in
     let n = size p in
     let o =
-    c.write-cut.ensures
+    c.write_cut.ensures
     ∙ (λ t. cut_with c.args.bytes.now (k t) c.args.m (b t) ++ drop (3 * c.args.m + 4 + (b t + 7) / 8) c.args.out.now)
     ∙ done_output c.args.bytes.now c.args.m small (fault p) (odd p) (within p) c.args.out.now room in
     record {

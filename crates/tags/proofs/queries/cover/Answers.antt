@@ -4,10 +4,10 @@ use Rattle.tags.proofs.queries.cover.Goals as goal
 
 pub returns : goal.returns
 returns c =
-    let h = c.in-ok-j.ensures in
+    let h = c.in_ok-j.ensures in
     record {
       answer =
           answered cover c.cover_at.result c.args.first.now c.args.second.now h.fine
-          (cover_here c.args.first.now c.args.second.now c.in-ok-j.j h c.cover_at.result c.cover_at.ensures);
-      shared = shared_here c.args.first.now c.args.second.now c.in-ok-j.j h c.cover_at.result c.cover_at.ensures;
+          (cover_here c.args.first.now c.args.second.now c.in_ok-j.j h c.cover_at.result c.cover_at.ensures);
+      shared = shared_here c.args.first.now c.args.second.now c.in_ok-j.j h c.cover_at.result c.cover_at.ensures;
     }

@@ -17,7 +17,7 @@ module _ (c : After-clashes) where
 
   one : tree_of c.args.first.now ≡ tree_of c.args.second.now
   one =
-      sym (ap tree_of c.in-Ok.ensures.told.1) ∙ sym c.tree_number.ensures ∙ c.if-tree-number.false ∙ c.tree-number-2.ensures ∙ ap tree_of c.in-Ok-read.ensures.told.1
+      sym (ap tree_of c.in-Ok.ensures.told.1) ∙ sym c.tree_number.ensures ∙ c.if-tree_number.false ∙ c.tree_number-2.ensures ∙ ap tree_of c.in-Ok-read.ensures.told.1
 
   clash_is : (t : Bool) → c.clashes.result ≡ t → clash (label_of c.args.first.now) (label_of c.args.second.now) ≡ t
   clash_is t e =

@@ -23,7 +23,7 @@ pub returns-then-unlike : goal.returns-then-unlike
 returns-then-unlike c =
     depths_differ (label_of c.args.a.now) (label_of c.args.b.now) c.loop-j.j c.loop-j.invariant.1 (field_at c.args.a.now c.loop-j.j) (field_at c.args.b.now c.loop-j.j)
     (sym (here c.args.a.now c.loop-j.j (omega arith))) (sym (here c.args.b.now c.loop-j.j (omega arith)))
-    (words c.args.a.now c.args.b.now c.loop-j.j true c.if-same-word.ensures)
+    (words c.args.a.now c.args.b.now c.loop-j.j true c.if-same_word.ensures)
     (sym c.if-unlike.ensures)
 
 pub loop-j-preserved : goal.loop-j-preserved
@@ -31,15 +31,15 @@ loop-j-preserved c = (
   omega arith,
   go_on (label_of c.args.a.now) (label_of c.args.b.now) c.loop-j.j c.loop-j.invariant.1 (field_at c.args.a.now c.loop-j.j) (field_at c.args.b.now c.loop-j.j)
       (sym (here c.args.a.now c.loop-j.j (omega arith))) (sym (here c.args.b.now c.loop-j.j (omega arith)))
-      (words c.args.a.now c.args.b.now c.loop-j.j true c.if-same-word.ensures)
+      (words c.args.a.now c.args.b.now c.loop-j.j true c.if-same_word.ensures)
       (sym c.if-unlike.ensures),
 )
 
-pub returns-else-same-word : goal.returns-else-same-word
-returns-else-same-word c = (
+pub returns-else-same_word : goal.returns-else-same_word
+returns-else-same_word c = (
   words_differ (label_of c.args.a.now) (label_of c.args.b.now) c.loop-j.j c.loop-j.invariant.1 (field_at c.args.a.now c.loop-j.j) (field_at c.args.b.now c.loop-j.j)
       (sym (here c.args.a.now c.loop-j.j (omega arith))) (sym (here c.args.b.now c.loop-j.j (omega arith)))
-      (words c.args.a.now c.args.b.now c.loop-j.j false c.if-same-word.ensures),
+      (words c.args.a.now c.args.b.now c.loop-j.j false c.if-same_word.ensures),
   c.loop-j.invariant.1,
 )
 

@@ -5,8 +5,8 @@ use Rattle.trees.specs.Deepest.{meet_of, meet_all}
 use Rattle.trees.proofs.Answering.{split}
 use Rattle.trees.proofs.climb.meet_list.Goals as goal
 
-pub meet-two-meet-requires : goal.meet-two-meet-requires
-meet-two-meet-requires g c =
+pub meet_two-meet-requires : goal.meet_two-meet-requires
+meet_two-meet-requires g c =
     let xs = c.args.others.now in
     let i = c.loop-v.v-index in
     let s = split c.args.n (get_or xs i 0) (drop (i + 1) xs) (sym (at_drop_more (first_missing c.args.n) xs i 0 c.loop-v-test.true) ∙ c.loop-v.invariant.1) in
@@ -19,9 +19,9 @@ loop-v-preserved g c =
     let i = c.loop-v.v-index in
     let p = g.H.Host.parents c.args.host.now in
     let s = split c.args.n (get_or xs i 0) (drop (i + 1) xs) (sym (at_drop_more (first_missing c.args.n) xs i 0 c.loop-v-test.true) ∙ c.loop-v.invariant.1) in (
-      c.meet-two-meet.ensures.node,
+      c.meet_two-meet.ensures.node,
       s.1,
-      ap (λ d. meet_all p d (drop (i + 1) xs)) c.meet-two-meet.ensures.same
+      ap (λ d. meet_all p d (drop (i + 1) xs)) c.meet_two-meet.ensures.same
           ∙ (sym (at_drop_more (meet_all p c.loop-v.meet) xs i 0 c.loop-v-test.true) ∙ c.loop-v.invariant.2),
     )
 

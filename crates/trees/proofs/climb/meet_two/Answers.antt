@@ -6,9 +6,9 @@ use Rattle.trees.proofs.climb.meet_two.Goals as goal
 pub loop-left-preserved-then-left-right : goal.loop-left-preserved-then-left-right
 loop-left-preserved-then-left-right g c =
     let t = g.H.Host.laws c.args.host.now c.args.n c.requires.tree in (
-      omega (arith, c.parent-of-left.ensures.less),
+      omega (arith, c.parent_of-left.ensures.less),
       c.loop-left.invariant.1,
-      sym (meet_left t c.loop-left.left c.loop-left.right c.parent-of-left.result c.if-left-right.true c.parent-of-left.ensures.is) ∙ c.loop-left.invariant.2,
+      sym (meet_left t c.loop-left.left c.loop-left.right c.parent_of-left.result c.if-left-right.true c.parent_of-left.ensures.is) ∙ c.loop-left.invariant.2,
     )
 
 pub loop-left-preserved : goal.loop-left-preserved
@@ -16,8 +16,8 @@ loop-left-preserved g c =
     let t = g.H.Host.laws c.args.host.now c.args.n c.requires.tree in
     let l : c.loop-left.left < c.loop-left.right = omega (arith, c.loop-left-test.true) in (
       c.loop-left.invariant.0,
-      omega (arith, c.parent-of-right.ensures.less),
-      sym (meet_right t c.loop-left.right c.parent-of-right.result c.parent-of-right.ensures.is c.loop-left.left l) ∙ c.loop-left.invariant.2,
+      omega (arith, c.parent_of-right.ensures.less),
+      sym (meet_right t c.loop-left.right c.parent_of-right.result c.parent_of-right.ensures.is c.loop-left.left l) ∙ c.loop-left.invariant.2,
     )
 
 pub returns : goal.returns

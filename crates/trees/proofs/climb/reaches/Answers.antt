@@ -5,8 +5,8 @@ use Rattle.trees.proofs.climb.reaches.Goals as goal
 pub loop-node-preserved : goal.loop-node-preserved
 loop-node-preserved g c =
     let t = g.H.Host.laws c.args.host.now c.args.n c.requires.tree in (
-      omega (arith, c.parent-of-node.ensures.less),
-      sym (above_up t c.args.a c.loop-node.node c.parent-of-node.result c.loop-node-test.true c.parent-of-node.ensures.is) ∙ c.loop-node.invariant.1,
+      omega (arith, c.parent_of-node.ensures.less),
+      sym (above_up t c.args.a c.loop-node.node c.parent_of-node.result c.loop-node-test.true c.parent_of-node.ensures.is) ∙ c.loop-node.invariant.1,
     )
 
 pub returns : goal.returns

@@ -12,8 +12,8 @@ use Rattle.writing.proofs.bits.put_bits.Goals.{then-x-k-eq1, else-x-k-eq1}
 pub loop-i-init : goal.loop-i-init
 loop-i-init c = wrote_nil c.args.at (unpacked c.args.out.now) (omega (arith, length_unpacked c.args.out.now, c.requires.room))
 
-pub set-bit-requires : goal.set-bit-requires
-set-bit-requires c =
+pub set_bit-requires : goal.set_bit-requires
+set_bit-requires c =
     record {
       room = omega arith;
       clear = next_clear c.args.at c.args.x c.args.k c.loop-i.i c.loop-i.invariant (omega arith) c.requires.clear;
@@ -24,7 +24,7 @@ loop-i-preserved c =
     let lt : c.args.at + c.loop-i.i < length (unpacked c.loop-i.out) = omega (arith, length_unpacked c.loop-i.out, c.requires.room) in
     elim c.if-x-k-eq1.branch [
       | then-x-k-eq1 w ↦
-          let e : set (unpacked c.loop-i.out) (c.args.at + c.loop-i.i) true ≡ unpacked c.if-x-k-eq1.out = sym (ap unpacked w.out-is ∙ w.set-bit.ensures) in
+          let e : set (unpacked c.loop-i.out) (c.args.at + c.loop-i.i) true ≡ unpacked c.if-x-k-eq1.out = sym (ap unpacked w.out-is ∙ w.set_bit.ensures) in
           bit_more c.args.at c.args.x c.args.k c.loop-i.i true c.loop-i.invariant (omega arith) (eq-eqb (c.args.x / 2 ^ (c.args.k - 1 - c.loop-i.i) % 2) 1 w.if-x-k-eq1.true)
           (subst (λ (zs : List Bool). Wrote (c.args.at + c.loop-i.i) (true ∷ []) (unpacked c.loop-i.out) zs) e (wrote_set (c.args.at + c.loop-i.i) true (unpacked c.loop-i.out) lt))
       | else-x-k-eq1 w ↦

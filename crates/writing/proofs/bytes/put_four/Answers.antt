@@ -3,4 +3,4 @@ use Rattle.writing.proofs.Puts.{then}
 use Rattle.writing.proofs.bytes.put_four.Goals as goal
 
 pub returns : goal.returns
-returns c = then c.put-two.ensures c.put-two-2.ensures (omega arith)
+returns c = then c.put_two.ensures c.put_two-2.ensures (omega arith)

@@ -7,8 +7,8 @@ use Rattle.rows.specs.Rows.{parents_in}
 use Rattle.writing.proofs.Sheeted.{all_more, all_fails, label_count}
 use Rattle.writing.proofs.sheeting.few_fields.Goals as goal
 
-pub returns-then-m-v-gt-MOST-FIELDS : goal.returns-then-m-v-gt-MOST-FIELDS
-returns-then-m-v-gt-MOST-FIELDS g c =
+pub returns-then-m-v-gt-MOST_FIELDS : goal.returns-then-m-v-gt-MOST_FIELDS
+returns-then-m-v-gt-MOST_FIELDS g c =
     let f = g.C.Code.words c.args.code.now in
     let up = c.args.m.now.up.now in
     let v = c.loop-v.v in

@@ -10,12 +10,12 @@ pub loop-v-init : goal.loop-v-init
 loop-v-init g c =
     (λ number. c.header-end.ensures ∙ offset_zero (g.C.Code.words c.args.code.now) c.args.m.now.up.now number, omega (arith, c.header-end.ensures))
 
-pub overflow-add-end : goal.overflow-add-end
-overflow-add-end g c = omega (arith, c.tag-size-end.ensures.small, c.loop-v.invariant.1, c.requires.marked.rooted.few)
+pub overflow_add-end : goal.overflow_add-end
+overflow_add-end g c = omega (arith, c.tag_size-end.ensures.small, c.loop-v.invariant.1, c.requires.marked.rooted.few)
 
 pub loop-v-preserved : goal.loop-v-preserved
 loop-v-preserved g c =
-    (λ number. offset_more (g.C.Code.words c.args.code.now) c.args.m.now.up.now number c.loop-v.v c.loop-v.end c.tag-size-end.result (c.loop-v.invariant.0 number) (c.tag-size-end.ensures.is number), omega (arith, c.tag-size-end.ensures.small, c.loop-v.invariant.1))
+    (λ number. offset_more (g.C.Code.words c.args.code.now) c.args.m.now.up.now number c.loop-v.v c.loop-v.end c.tag_size-end.result (c.loop-v.invariant.0 number) (c.tag_size-end.ensures.is number), omega (arith, c.tag_size-end.ensures.small, c.loop-v.invariant.1))
 
 pub returns : goal.returns
 returns g c number =

@@ -18,11 +18,11 @@ loop-v-init g c =
       subst (λ (ws : List ℕ). Wrote (8 + 4 * length up) ws c.args.out.now c.args.out.now) (sym (no_tags f up c.args.number)) (wrote_nil (8 + 4 * length up) c.args.out.now (omega (arith, c.requires.room, offset_is f up c.args.number (length up)))),
     )
 
-pub overflow-add-end : goal.overflow-add-end
-overflow-add-end g c = omega (arith, c.tag-size-end.ensures.small, c.loop-v.invariant.1, c.requires.marked.rooted.few)
+pub overflow_add-end : goal.overflow_add-end
+overflow_add-end g c = omega (arith, c.tag_size-end.ensures.small, c.loop-v.invariant.1, c.requires.marked.rooted.few)
 
-pub put-tag-requires : goal.put-tag-requires
-put-tag-requires g c =
+pub put_tag-requires : goal.put_tag-requires
+put_tag-requires g c =
     let f = g.C.Code.words c.args.code.now in
     let up = c.args.m.now.up.now in
     record {
@@ -33,7 +33,7 @@ put-tag-requires g c =
 
 pub loop-v-preserved : goal.loop-v-preserved
 loop-v-preserved g c =
-    (offset_more (g.C.Code.words c.args.code.now) c.args.m.now.up.now c.args.number c.loop-v.v c.loop-v.end c.tag-size-end.result c.loop-v.invariant.0 (c.tag-size-end.ensures.is c.args.number), omega (arith, c.tag-size-end.ensures.small, c.loop-v.invariant.1), put_next (g.C.Code.words c.args.code.now) c.args.m.now.up.now c.args.number c.loop-v.v c.loop-v.end c.loop-v.invariant.0 c.loop-v.invariant.2 c.put-tag.ensures)
+    (offset_more (g.C.Code.words c.args.code.now) c.args.m.now.up.now c.args.number c.loop-v.v c.loop-v.end c.tag_size-end.result c.loop-v.invariant.0 (c.tag_size-end.ensures.is c.args.number), omega (arith, c.tag_size-end.ensures.small, c.loop-v.invariant.1), put_next (g.C.Code.words c.args.code.now) c.args.m.now.up.now c.args.number c.loop-v.v c.loop-v.end c.loop-v.invariant.0 c.loop-v.invariant.2 c.put_tag.ensures)
 
 pub returns : goal.returns
 returns g c =

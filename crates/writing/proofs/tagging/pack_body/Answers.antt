@@ -6,8 +6,8 @@ use Rattle.writing.specs.Bits.{unpacked}
 use Rattle.writing.proofs.Packing.{over_clear, packs, zero_bits}
 use Rattle.writing.proofs.tagging.pack_body.Goals as goal
 
-pub put-body-requires : goal.put-body-requires
-put-body-requires g c = record {
+pub put_body-requires : goal.put_body-requires
+put_body-requires g c = record {
   marked = c.requires.marked;
   inside = c.requires.inside;
   room = omega (arith, c.requires.room);
@@ -18,6 +18,6 @@ put-body-requires g c = record {
 pub returns : goal.returns
 returns g c =
     let bs = body_in (row_label (g.C.Code.words c.args.code.now) c.args.m.now.up.now c.args.v) in
-    packs c.put-body.new.out bs (omega (arith, c.requires.room))
-    (λ i. omega (arith, c.type-inv.out i))
-    (over_clear bs (unpacked c.fill.new.self) (unpacked c.put-body.new.out) c.put-body.ensures (zero_bits c.fill.new.self (λ i h. search rules)))
+    packs c.put_body.new.out bs (omega (arith, c.requires.room))
+    (λ i. omega (arith, c.type_inv.out i))
+    (over_clear bs (unpacked c.fill.new.self) (unpacked c.put_body.new.out) c.put_body.ensures (zero_bits c.fill.new.self (λ i h. search rules)))

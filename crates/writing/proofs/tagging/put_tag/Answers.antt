@@ -12,28 +12,28 @@ use Rattle.writing.proofs.Puts.{then}
 use Rattle.writing.proofs.Tagged.{length_ends, twice_depths, tag_length, tag_parts}
 use Rattle.writing.proofs.tagging.put_tag.Goals as goal
 
-pub put-two-requires : goal.put-two-requires
-put-two-requires g c =
+pub put_two-requires : goal.put_two-requires
+put_two-requires g c =
     omega (arith, tag_length (g.C.Code.words c.args.code.now) c.args.m.now c.requires.marked c.args.v c.requires.inside c.args.number, c.requires.room)
 
-pub overflow-cast-k-2 : goal.overflow-cast-k-2
-overflow-cast-k-2 g c =
+pub overflow_cast-k-2 : goal.overflow_cast-k-2
+overflow_cast-k-2 g c =
     omega (arith, few_fields c.args.m.now.up.now c.requires.marked.rooted (g.C.Code.words c.args.code.now) c.args.v c.requires.inside, c.requires.marked.numbered c.args.v c.requires.inside)
 
-pub put-one-requires : goal.put-one-requires
-put-one-requires g c =
+pub put_one-requires : goal.put_one-requires
+put_one-requires g c =
     omega (arith, tag_length (g.C.Code.words c.args.code.now) c.args.m.now c.requires.marked c.args.v c.requires.inside c.args.number, c.requires.room)
 
-pub put-ends-requires : goal.put-ends-requires
-put-ends-requires g c =
+pub put_ends-requires : goal.put_ends-requires
+put_ends-requires g c =
     record { marked = c.requires.marked; inside = c.requires.inside; room = omega (arith, tag_length (g.C.Code.words c.args.code.now) c.args.m.now c.requires.marked c.args.v c.requires.inside c.args.number, c.requires.marked.numbered c.args.v c.requires.inside, c.requires.room) }
 
-pub put-depths-requires : goal.put-depths-requires
-put-depths-requires g c =
+pub put_depths-requires : goal.put_depths-requires
+put_depths-requires g c =
     record { marked = c.requires.marked; inside = c.requires.inside; room = omega (arith, tag_length (g.C.Code.words c.args.code.now) c.args.m.now c.requires.marked c.args.v c.requires.inside c.args.number, c.requires.marked.numbered c.args.v c.requires.inside, c.requires.room) }
 
-pub put-packed-requires : goal.put-packed-requires
-put-packed-requires g c =
+pub put_packed-requires : goal.put_packed-requires
+put_packed-requires g c =
     let he : body_bytes (row_label (g.C.Code.words c.args.code.now) c.args.m.now.up.now c.args.v) ≡ ((get_or c.args.m.now.bits.now c.args.v 0 + 7) / 8) = ap (λ (x : ℕ). (x + 7) / 8) (sym (c.requires.marked.counted c.args.v c.requires.inside)) in
     record { marked = c.requires.marked; inside = c.requires.inside; room = omega (arith, tag_length (g.C.Code.words c.args.code.now) c.args.m.now c.requires.marked c.args.v c.requires.inside c.args.number, c.requires.room) }
 
@@ -52,6 +52,6 @@ returns g c =
     let d1 = length_two (depths_in l) in
     let d2 = twice_depths (g.C.Code.words c.args.code.now) c.args.m.now c.requires.marked c.args.v c.requires.inside in
     let d3 = length-append (H ++ E) D in
-    subst (λ (bs : List ℕ). Wrote c.args.at bs c.args.out.now c.put-packed.new.out)
+    subst (λ (bs : List ℕ). Wrote c.args.at bs c.args.out.now c.put_packed.new.out)
     (ap (λ (x : ℕ). (((two c.args.number ++ (x ∷ [])) ++ E) ++ D) ++ pack (body_in l)) k ∙ sym (tag_parts c.args.number l))
-    (then (then (then (then c.put-two.ensures c.put-one.ensures (omega arith)) c.put-ends.ensures (omega arith)) c.put-depths.ensures (omega arith)) c.put-packed.ensures (omega arith))
+    (then (then (then (then c.put_two.ensures c.put_one.ensures (omega arith)) c.put_ends.ensures (omega arith)) c.put_depths.ensures (omega arith)) c.put_packed.ensures (omega arith))

@@ -5,7 +5,7 @@ use Rattle.codes.specs.Weighing.{fine_list}
 use Rattle.codes.proofs.Accepting.{fine_yes, not_fine, sum_before_fine, sum_of_all_fine, sum_before_not, sum_of_all_not}
 use Rattle.codes.proofs.item.Item.at.Goals as goal
 use Rattle.codes.proofs.item.Item.at.Goals.{then-k-index, else-k-index}
-use Rattle.codes.proofs.item.Item.at.Goals.{then-weight-eq0-via-then-weight-eq0, then-weight-eq0-via-else-weight-eq0+then-total-weight-gt-MOST-WEIGHT}
+use Rattle.codes.proofs.item.Item.at.Goals.{then-weight-eq0-via-then-weight-eq0, then-weight-eq0-via-else-weight-eq0+then-total-weight-gt-MOST_WEIGHT}
 
 pub loop-k-init : goal.loop-k-init
 loop-k-init c = (refl, omega arith, tt, ap sum (sym (take_all c.args.index [] (omega arith))))
@@ -20,7 +20,7 @@ loop-k-preserved c =
     let some : 1 ≤ get_or ws k 0 = omega arith in
     let more : c.loop-k.total + get_or ws k 0 ≡ sum (take (k + 1) ws) = omega (arith, sum_by_more (λ (x : ℕ). x) ws k 0 in_list, e) in (
       more,
-      c.if-total-weight-gt-MOST-WEIGHT.false,
+      c.if-total-weight-gt-MOST_WEIGHT.false,
       All-more (λ (x : ℕ). 1 ≤ x) ws k 0 in_list c.loop-k.invariant.2 some,
       elim c.if-k-index.branch [
         | then-k-index w ↦
@@ -33,8 +33,8 @@ loop-k-preserved c =
       ],
     )
 
-pub invariant-of-result : goal.invariant-of-result
-invariant-of-result c =
+pub invariant_of-result : goal.invariant_of-result
+invariant_of-result c =
     let ws = c.args.weights.now in
     let k = c.loop-k.k in
     let in_list : k < length ws = c.loop-k-test.true in
@@ -45,12 +45,12 @@ invariant-of-result c =
     let some = All-get_or (λ (x : ℕ). 1 ≤ x) ws k 0 in_list each in
     elim c.then-weight-eq0.branch [
       | then-weight-eq0-via-then-weight-eq0 w ↦ omega (arith, some, w.if-weight-eq0.true)
-      | then-weight-eq0-via-else-weight-eq0+then-total-weight-gt-MOST-WEIGHT w ↦ omega (arith, more, upto, e, bounded, w.if-total-weight-gt-MOST-WEIGHT.true)
+      | then-weight-eq0-via-else-weight-eq0+then-total-weight-gt-MOST_WEIGHT w ↦ omega (arith, more, upto, e, bounded, w.if-total-weight-gt-MOST_WEIGHT.true)
     ]) in
     (sym bad, (sym (sum_before_not ws c.args.index bad), (sym (sum_of_all_not ws bad), tt)))
 
-pub invariant-of-result-2 : goal.invariant-of-result-2
-invariant-of-result-2 c =
+pub invariant_of-result-2 : goal.invariant_of-result-2
+invariant_of-result-2 c =
     let ws = c.args.weights.now in
     let i = c.args.index in
     let k = c.loop-k.k in

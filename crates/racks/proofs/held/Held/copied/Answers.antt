@@ -6,8 +6,8 @@ use Rattle.racks.proofs.held.Held.copied.Goals as goal
 pub padded-requires : goal.padded-requires
 padded-requires c = tag_short c.args.tag.now c.requires
 
-pub invariant-of-result : goal.invariant-of-result
-invariant-of-result c =
+pub invariant_of-result : goal.invariant_of-result
+invariant_of-result c =
     (omega (arith, c.padded.ensures.long, tag_short c.args.tag.now c.requires), (ap readable c.padded.ensures.front ∙ tag_to c.args.tag.now c.requires, tt))
 
 pub returns : goal.returns

@@ -7,7 +7,7 @@ use Rattle.racks.proofs.held.Held.front.Goals as goal
 
 pub unwrap-len-requires : goal.unwrap-len-requires
 unwrap-len-requires c =
-    let small : Bytes c.args.tag.now = λ i. omega (arith, c.type-inv.tag i) in
+    let small : Bytes c.args.tag.now = λ i. omega (arith, c.type_inv.tag i) in
     ap is_ok (front_made c.args.tag.now c.args.fields small c.requires.reads c.requires.odd c.requires.within (replicate 321 0) refl c.cut.result c.cut.ensures.answer)
 
 pub returns : goal.returns
@@ -16,7 +16,7 @@ returns c =
     let m = c.args.fields in
     let new = c.cut.new.out in
     let len = c.unwrap-len.result in
-    let small : Bytes bs = λ i. omega (arith, c.type-inv.tag i) in
+    let small : Bytes bs = λ i. omega (arith, c.type_inv.tag i) in
     let a = front_made bs m small c.requires.reads c.requires.odd c.requires.within (replicate 321 0) refl c.cut.result c.cut.ensures.answer in
     let u = c.unwrap-len.ensures in
     let n : len ≡ length (cut_tag bs m) = cc in

@@ -7,10 +7,10 @@ use Rattle.racks.specs.Views.{refusal_of}
 use Rattle.racks.proofs.Verdicts.{tag_from, add_first, join_fine, join_bytes, join_tree, join_refused, part_within}
 use Rattle.racks.proofs.held.Held.joined_with.Goals as goal
 
-pub returns-in-err-admit : goal.returns-in-err-admit
-returns-in-err-admit c =
+pub returns-in_err-admit : goal.returns-in_err-admit
+returns-in_err-admit c =
     let p = err_from_is_err_and c.from-residual.result c.from-residual.ensures.1 in
-    rw (p.1, p.2) (add_first c.args.tree c.args.tag.now (held_bytes c.args.self.now) (refusal_of c.in-err-admit.field-0.0) c.in-err-admit.ensures)
+    rw (p.1, p.2) (add_first c.args.tree c.args.tag.now (held_bytes c.args.self.now) (refusal_of c.in_err-admit.field-0.0) c.in_err-admit.ensures)
 
 pub front-requires : goal.front-requires
 front-requires c =
@@ -24,7 +24,7 @@ front-requires c =
 pub front-requires-in-Second : goal.front-requires-in-Second
 front-requires-in-Second c =
     record {
-      reads = c.in-ok-admit.ensures.0;
+      reads = c.in_ok-admit.ensures.0;
       odd = c.in-Ok.ensures.shared.odd;
       within = part_within c.tag-held.result.now c.args.tag.now c.in-Ok.part Second c.in-Second.is c.in-Ok.ensures.shared;
     }
@@ -33,7 +33,7 @@ pub returns-in-First : goal.returns-in-First
 returns-in-First c =
     let h = held_bytes c.args.self.now in
     let g = c.tag-held.result.now in
-    let a = c.in-ok-admit.ensures in
+    let a = c.in_ok-admit.ensures in
     let e = c.tag-held.ensures in
     let f = c.args.self.now.reads in
     let p = c.in-Ok.part in
@@ -49,7 +49,7 @@ pub returns-in-Second : goal.returns-in-Second
 returns-in-Second c =
     let h = held_bytes c.args.self.now in
     let g = c.tag-held.result.now in
-    let a = c.in-ok-admit.ensures in
+    let a = c.in_ok-admit.ensures in
     let e = c.tag-held.ensures in
     let f = c.args.self.now.reads in
     let p = c.in-Ok.part in
@@ -63,5 +63,5 @@ returns-in-Second c =
 
 pub returns-in-Err : goal.returns-in-Err
 returns-in-Err c =
-    let a = c.in-ok-admit.ensures in
+    let a = c.in_ok-admit.ensures in
     join_refused c.args.tree (held_bytes c.args.self.now) c.tag-held.result.now c.args.tag.now c.tag-held.ensures c.args.self.now.reads c.requires a.0 a.1 _ c.in-Err.ensures.answer

@@ -7,37 +7,37 @@ use Rattle.std.proofs.lemmas.Result.{err_from_is_err_and}
 use Rattle.racks.proofs.Rows.{sound_at, told_fit, told_unfit, tried_put, tried_kept, tried_unfit}
 use Rattle.racks.proofs.rack.Rack.add.Goals as goal
 
-pub joined-with-requires : goal.joined-with-requires
-joined-with-requires c =
+pub joined_with-requires : goal.joined_with-requires
+joined_with-requires c =
     let r = c.args.self.now in
     let h : c.args.ticket.now.place < length r.places = omega arith in
     sound_at r.tree r.places r.sound c.args.ticket.now.place _ c.in-Started.held h c.in-Started.is
 
-pub returns-in-err-cover : goal.returns-in-err-cover
-returns-in-err-cover c =
+pub returns-in_err-cover : goal.returns-in_err-cover
+returns-in_err-cover c =
     let r = c.args.self.now in
     let t = started_of c.args.ticket.now in
     let h : t.place < length r.places = omega arith in
     let b = c.args.tag.now in
     let s = held_bytes c.in-Started.held in
-    let a = c.in-err-cover.ensures in
+    let a = c.in_err-cover.ensures in
     let p = err_from_is_err_and c.from-residual.result c.from-residual.ensures.1 in
     record {
       answers = ap (add_said c.args.ticket.now) (p.1 ∙ ap Err p.2) ∙ sym (told_fit r.number r.tree r.places t c.if-ticket-self.false _ _ h c.in-Started.is (adding b) refl ∙ ap (λ (o : Option Refusal). verdict o t (hands t)) a);
       leaves = tried_kept r.number r.tree r.places t c.if-ticket-self.false _ _ h c.in-Started.is (adding b) refl (sym (ap (λ (o : Option Refusal). settled o (started (joined s b)) (started s)) a));
     }
 
-pub returns-in-ok-cover : goal.returns-in-ok-cover
-returns-in-ok-cover c =
+pub returns-in_ok-cover : goal.returns-in_ok-cover
+returns-in_ok-cover c =
     let r = c.args.self.now in
     let t = started_of c.args.ticket.now in
     let h : t.place < length r.places = omega arith in
     let b = c.args.tag.now in
     let s = held_bytes c.in-Started.held in
-    let a = c.in-ok-cover.ensures in
+    let a = c.in_ok-cover.ensures in
     record {
       answers = sym (told_fit r.number r.tree r.places t c.if-ticket-self.false _ _ h c.in-Started.is (adding b) refl ∙ ap (λ (o : Option Refusal). verdict o t (hands t)) a.0);
-      leaves = tried_put r.number r.tree r.places t c.if-ticket-self.false _ _ h c.in-Started.is (adding b) refl (Started c.in-ok-cover.cover) (ap started a.1 ∙ sym (ap (λ (o : Option Refusal). settled o (started (joined s b)) (started s)) a.0));
+      leaves = tried_put r.number r.tree r.places t c.if-ticket-self.false _ _ h c.in-Started.is (adding b) refl (Started c.in_ok-cover.cover) (ap started a.1 ∙ sym (ap (λ (o : Option Refusal). settled o (started (joined s b)) (started s)) a.0));
     }
 
 pub returns-in-Empty : goal.returns-in-Empty

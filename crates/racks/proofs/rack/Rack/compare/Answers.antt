@@ -4,8 +4,8 @@ use Rattle.racks.specs.declared.place.Place.TheVariants.{Empty}
 use Rattle.racks.proofs.Rows.{sound_at, compare_is}
 use Rattle.racks.proofs.rack.Rack.compare.Goals as goal
 
-pub related-to-requires : goal.related-to-requires
-related-to-requires c =
+pub related_to-requires : goal.related_to-requires
+related_to-requires c =
     let r = c.args.self.now in
     let p = c.args.first in
     let q = c.args.second in
@@ -24,7 +24,7 @@ returns-in-Started-Started c =
     let bq : q < place_count = omega arith in
     let hp : p < length r.places = omega arith in
     let hq : q < length r.places = omega arith in
-    c.related-to.ensures ∙ sym (compare_is r.number r.tree r.places p q _ _ _ _ bp bq hp hq c.in-Started-Started.is-0 c.in-Started-Started.is-1)
+    c.related_to.ensures ∙ sym (compare_is r.number r.tree r.places p q _ _ _ _ bp bq hp hq c.in-Started-Started.is-0 c.in-Started-Started.is-1)
 
 pub returns-in-Started-Empty : goal.returns-in-Started-Empty
 returns-in-Started-Empty c =
