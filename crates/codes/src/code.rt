@@ -36,7 +36,7 @@ pub trait Code {
 
 // The word of one item of a list, by any code.
 pub fn word_at<C: Code>(code: &C, weights: &[u16], index: usize) -> Result<Word, CodeRefusal>
-    ensures told { result ≡ answer (words code.now) weights.now index }
+    ensures told { result ≡ answer (C.words code.now) weights.now index }
     ensures fit { IfOk result Fit }
 {
     code.word(&Item::at(weights, index))
@@ -49,7 +49,7 @@ pub fn two_words<C: Code>(
     first: usize,
     second: usize,
 ) -> Result<(Word, Word), CodeRefusal>
-    ensures told { result ≡ pair_answer (words code.now) weights.now first second }
+    ensures told { result ≡ pair_answer (C.words code.now) weights.now first second }
     ensures ordered { first < second → IfOk result (λ p. Before (bits p.0) (bits p.1)) }
 {
     let a = word_at(code, weights, first)?;

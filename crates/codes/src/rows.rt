@@ -27,7 +27,7 @@ pub fn encode<C: Code>(
     len: &mut [u16],
 ) -> Result<(), EncodeRefusal>
     ensures told { result ≡ encode_answer weights.now (length high.old) (length low.old) (length len.old) }
-    ensures rows { Encoded (words code.now weights.now) (if is_ok result then length weights.now else 0) high.old low.old len.old high.new low.new len.new }
+    ensures rows { Encoded (C.words code.now weights.now) (if is_ok result then length weights.now else 0) high.old low.old len.old high.new low.new len.new }
 {
     let mut item = Item::at(weights, 0);
     if !item.accepted() {

@@ -48,7 +48,7 @@ fn put_words<C: Code>(
     requires lens { length len.old ≡ length next.now }
     requires fine { Weights list.now }
     requires many { length list.now ≡ length (chain next.now from) }
-    ensures { Stored (C.Code.words code.now list.now) (chain next.now from) high.old low.old len.old high.new low.new len.new }
+    ensures { Stored (C.words code.now list.now) (chain next.now from) high.old low.old len.old high.new low.new len.new }
 {
     let mut c = from;
     let mut item = Item::at(list, 0);
@@ -86,7 +86,7 @@ pub fn code_chain<C: Code>(
     requires lows { length low.old ≡ length next.now }
     requires lens { length len.old ≡ length next.now }
     requires fine { Weights (map (at weight.now) (chain next.now from)) }
-    ensures { Stored (C.Code.words code.now (map (at weight.now) (chain next.now from))) (chain next.now from) high.old low.old len.old high.new low.new len.new }
+    ensures { Stored (C.words code.now (map (at weight.now) (chain next.now from))) (chain next.now from) high.old low.old len.old high.new low.new len.new }
 {
     let k = list_weights(next, weight, from, list);
     put_words(code, next, from, &list[..k], high, low, len);

@@ -52,8 +52,8 @@ pub fn fill_words<C: Code>(
     requires bls { length branch_low.old ≡ length up.now }
     requires bns { length branch_len.old ≡ length up.now }
     ensures chosen { HeavyRow up.now heavy.new }
-    ensures paths { PathRows (C.Code.words code.now) up.now path_high.new path_low.new path_len.new }
-    ensures branches { BranchRows (C.Code.words code.now) up.now branch_high.new branch_low.new branch_len.new }
+    ensures paths { PathRows (C.words code.now) up.now path_high.new path_low.new path_len.new }
+    ensures branches { BranchRows (C.words code.now) up.now branch_high.new branch_low.new branch_len.new }
 {
     sizes(up, size);
     heavies(up, size, heavy);
@@ -98,12 +98,12 @@ pub fn fill_marks<C: Code>(
     requires pns { length path_len.now ≡ length up.now }
     requires bns { length branch_len.now ≡ length up.now }
     requires chosen { HeavyRow up.now heavy.now }
-    requires paths { PathRows (C.Code.words code.now) up.now path_high.now path_low.now path_len.now }
-    requires branches { BranchRows (C.Code.words code.now) up.now branch_high.now branch_low.now branch_len.now }
+    requires paths { PathRows (C.words code.now) up.now path_high.now path_low.now path_len.now }
+    requires branches { BranchRows (C.words code.now) up.now branch_high.now branch_low.now branch_len.now }
     ensures topped { TopRow up.now top.new }
     ensures deep { DepthRow up.now depth.new }
-    ensures counted { BitsRow (C.Code.words code.now) up.now bits.new }
-    ensures numbered { FieldsRow (C.Code.words code.now) up.now fields.new }
+    ensures counted { BitsRow (C.words code.now) up.now bits.new }
+    ensures numbered { FieldsRow (C.words code.now) up.now fields.new }
 {
     tops(up, heavy, top);
     depths(up, depth);

@@ -56,10 +56,10 @@ pub fn counts<C: Code>(
     requires room { length bits.old ≡ length up.now }
     requires room2 { length fields.old ≡ length up.now }
     requires topped { TopRow up.now top.now }
-    requires paths { PathRows (C.Code.words code.now) up.now path_high.now path_low.now path_len.now }
-    requires branches { BranchRows (C.Code.words code.now) up.now branch_high.now branch_low.now branch_len.now }
-    ensures counted { BitsRow (C.Code.words code.now) up.now bits.new }
-    ensures numbered { FieldsRow (C.Code.words code.now) up.now fields.new }
+    requires paths { PathRows (C.words code.now) up.now path_high.now path_low.now path_len.now }
+    requires branches { BranchRows (C.words code.now) up.now branch_high.now branch_low.now branch_len.now }
+    ensures counted { BitsRow (C.words code.now) up.now bits.new }
+    ensures numbered { FieldsRow (C.words code.now) up.now fields.new }
 {
     for v in 0..up.len() {
         let t = top[v] as usize;

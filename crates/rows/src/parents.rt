@@ -6,9 +6,9 @@ use trees::host::Host;
 
 // Asks the host once for the parent of each node but the root, and stores it at the node's place.
 pub fn gather<H: Host>(host: &H, up: &mut [u16])
-    requires tree { H.Host.verdicts host.now ≡ Ok (length up.old) }
+    requires tree { H.verdicts host.now ≡ Ok (length up.old) }
     ensures rooted { Rooted up.new }
-    ensures held { parents_in up.new ≡ H.Host.parents host.now }
+    ensures held { parents_in up.new ≡ H.parents host.now }
 {
     for v in 1..up.len() {
         // Each node but the root has a parent.

@@ -26,7 +26,7 @@ pub fn path_words<C: Code>(
     requires lens { length len.old ≡ length up.now }
     requires chosen { HeavyRow up.now heavy.now }
     requires weighed { LightRow up.now light.now }
-    ensures { PathRows (C.Code.words code.now) up.now high.new low.new len.new }
+    ensures { PathRows (C.words code.now) up.now high.new low.new len.new }
 {
     for t in 0..up.len() {
         if t == 0 || heavy[up[t] as usize] as usize != t {
@@ -59,7 +59,7 @@ pub fn branch_words<C: Code>(
     requires rising { Rising next.now }
     requires linked { LightLinks up.now first.now next.now }
     requires inside { (p : ℕ) → p < length up.now → at first.now p < length up.now }
-    ensures { BranchRows (C.Code.words code.now) up.now high.new low.new len.new }
+    ensures { BranchRows (C.words code.now) up.now high.new low.new len.new }
 {
     for p in 0..up.len() {
         let c = first[p] as usize;

@@ -82,13 +82,13 @@ fn finish<'x, C: Code>(
     requires nbn { length branch_len.now ≡ length up.now }
     requires topped { TopRow up.now top.now }
     requires deep { DepthRow up.now depth.now }
-    requires counted { BitsRow (C.Code.words code.now) up.now bits.now }
-    requires numbered { FieldsRow (C.Code.words code.now) up.now fields.now }
-    requires paths { PathRows (C.Code.words code.now) up.now path_high.now path_low.now path_len.now }
-    requires branches { BranchRows (C.Code.words code.now) up.now branch_high.now branch_low.now branch_len.now }
-    ensures told { result ≡ press_answer (measured (parents_in up.now) (C.Code.words code.now) number (length up.now) (length out.old)) }
+    requires counted { BitsRow (C.words code.now) up.now bits.now }
+    requires numbered { FieldsRow (C.words code.now) up.now fields.now }
+    requires paths { PathRows (C.words code.now) up.now path_high.now path_low.now path_len.now }
+    requires branches { BranchRows (C.words code.now) up.now branch_high.now branch_low.now branch_len.now }
+    ensures told { result ≡ press_answer (measured (parents_in up.now) (C.words code.now) number (length up.now) (length out.old)) }
     ensures late { (e : PressRefusal) → result ≡ Err e → press_number e ≤ 3 → ⊥ }
-    ensures written { out.new ≡ press_output (measured (parents_in up.now) (C.Code.words code.now) number (length up.now) (length out.old)) out.old }
+    ensures written { out.new ≡ press_output (measured (parents_in up.now) (C.words code.now) number (length up.now) (length out.old)) out.old }
 {
     let m = Marks {
         up,
@@ -123,10 +123,10 @@ pub fn press<H: Host, C: Code>(
     work: &mut [u16],
     out: &mut [u8],
 ) -> Result<usize, PressRefusal>
-    ensures told { result ≡ press_answer (pressed (H.Host.parents host.now) (C.Code.words code.now) number (H.Host.verdicts host.now) (length work.old) (length out.old)) }
-    ensures written { out.new ≡ press_output (pressed (H.Host.parents host.now) (C.Code.words code.now) number (H.Host.verdicts host.now) (length work.old) (length out.old)) out.old }
+    ensures told { result ≡ press_answer (pressed (H.parents host.now) (C.words code.now) number (H.verdicts host.now) (length work.old) (length out.old)) }
+    ensures written { out.new ≡ press_output (pressed (H.parents host.now) (C.words code.now) number (H.verdicts host.now) (length work.old) (length out.old)) out.old }
     ensures found { (e : PressRefusal) → result ≡ Err e → press_number e ≤ 3 → work.new ≡ work.old }
-    ensures keeps { IfOk result (λ k. (n : ℕ) → H.Host.verdicts host.now ≡ Ok n → Promises (H.Host.parents host.now) n (C.Code.words code.now) number (take k out.new)) }
+    ensures keeps { IfOk result (λ k. (n : ℕ) → H.verdicts host.now ≡ Ok n → Promises (H.parents host.now) n (C.words code.now) number (take k out.new)) }
 {
     if number == 0 {
         return Err(PressRefusal::NumberZero);

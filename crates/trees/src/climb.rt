@@ -46,10 +46,10 @@ fn missing(n: u16, nodes: &[u16]) -> Option<u16>
 
 // The parent of a node other than the root.
 fn parent_of<H: Host>(host: &H, n: u16, v: u16) -> u16
-    requires tree { verdicts host.now ≡ Ok n }
+    requires tree { H.verdicts host.now ≡ Ok n }
     requires node { v < n }
     requires child { 1 ≤ v }
-    ensures is { parents host.now v ≡ Some result }
+    ensures is { H.parents host.now v ≡ Some result }
     ensures less { result < v }
 {
     host.parent(v).unwrap()
@@ -57,9 +57,9 @@ fn parent_of<H: Host>(host: &H, n: u16, v: u16) -> u16
 
 // How many steps a node is below the root.
 fn steps_up<H: Host>(host: &H, n: u16, v: u16) -> u16
-    requires tree { verdicts host.now ≡ Ok n }
+    requires tree { H.verdicts host.now ≡ Ok n }
     requires node { v < n }
-    ensures { result ≡ depth_of (parents host.now) v }
+    ensures { result ≡ depth_of (H.parents host.now) v }
 {
     let mut at = v;
     let mut steps = 0;
@@ -72,9 +72,9 @@ fn steps_up<H: Host>(host: &H, n: u16, v: u16) -> u16
 
 // Whether a is node v or stands above it: what stands above has a smaller number, so the climb stops at a or passes it.
 fn reaches<H: Host>(host: &H, n: u16, a: u16, v: u16) -> bool
-    requires tree { verdicts host.now ≡ Ok n }
+    requires tree { H.verdicts host.now ≡ Ok n }
     requires node { v < n }
-    ensures { result ≡ is_above (parents host.now) a v }
+    ensures { result ≡ is_above (H.parents host.now) a v }
 {
     let mut node = v;
     while node > a {
@@ -85,10 +85,10 @@ fn reaches<H: Host>(host: &H, n: u16, a: u16, v: u16) -> bool
 
 // The deepest node at or above two nodes: the one with the greater number does not stand above the other, so it climbs.
 fn meet_two<H: Host>(host: &H, n: u16, a: u16, b: u16) -> u16
-    requires tree { verdicts host.now ≡ Ok n }
+    requires tree { H.verdicts host.now ≡ Ok n }
     requires first { a < n }
     requires second { b < n }
-    ensures same { result ≡ meet_of (parents host.now) a b }
+    ensures same { result ≡ meet_of (H.parents host.now) a b }
     ensures node { result < n }
 {
     let mut left = a;
@@ -105,10 +105,10 @@ fn meet_two<H: Host>(host: &H, n: u16, a: u16, b: u16) -> u16
 
 // The deepest node at or above a node and others.
 fn meet_list<H: Host>(host: &H, n: u16, first: u16, others: &[u16]) -> u16
-    requires tree { verdicts host.now ≡ Ok n }
+    requires tree { H.verdicts host.now ≡ Ok n }
     requires node { first < n }
     requires nodes { first_missing n others.now ≡ None }
-    ensures same { result ≡ meet_all (parents host.now) first others.now }
+    ensures same { result ≡ meet_all (H.parents host.now) first others.now }
     ensures node { result < n }
 {
     let mut meet = first;
@@ -120,8 +120,8 @@ fn meet_list<H: Host>(host: &H, n: u16, first: u16, others: &[u16]) -> u16
 
 // The depth of a node.
 pub fn depth<H: Host>(host: &H, v: u16) -> Result<u16, ClimbRefusal>
-    ensures value { result ≡ depth_answer (verdicts host.now) (parents host.now) v }
-    ensures rule { (n : ℕ) → verdicts host.now ≡ Ok n → Depths (parents host.now) }
+    ensures value { result ≡ depth_answer (H.verdicts host.now) (H.parents host.now) v }
+    ensures rule { (n : ℕ) → H.verdicts host.now ≡ Ok n → Depths (H.parents host.now) }
 {
     let n = host.verdict()?;
     if v >= n {
@@ -132,8 +132,8 @@ pub fn depth<H: Host>(host: &H, v: u16) -> Result<u16, ClimbRefusal>
 
 // Whether node a is node v or stands above it.
 pub fn is_at_or_above<H: Host>(host: &H, a: u16, v: u16) -> Result<bool, ClimbRefusal>
-    ensures value { result ≡ above_answer (verdicts host.now) (parents host.now) a v }
-    ensures order { (n : ℕ) → verdicts host.now ≡ Ok n → Order (parents host.now) }
+    ensures value { result ≡ above_answer (H.verdicts host.now) (H.parents host.now) a v }
+    ensures order { (n : ℕ) → H.verdicts host.now ≡ Ok n → Order (H.parents host.now) }
 {
     let n = host.verdict()?;
     if a >= n {
@@ -147,9 +147,9 @@ pub fn is_at_or_above<H: Host>(host: &H, a: u16, v: u16) -> Result<bool, ClimbRe
 
 // The smallest assembly that holds a node and others: the deepest node at or above all of them.
 pub fn meet<H: Host>(host: &H, first: u16, others: &[u16]) -> Result<Assembly, ClimbRefusal>
-    ensures value { result ≡ meet_answer (verdicts host.now) (parents host.now) first others.now }
-    ensures deepest { IfOk result (λ m. Deepest (parents host.now) (first ∷ others.now) m.node) }
-    ensures only { IfOk result (λ m. (d : ℕ) → Deepest (parents host.now) (first ∷ others.now) d → d ≡ m.node) }
+    ensures value { result ≡ meet_answer (H.verdicts host.now) (H.parents host.now) first others.now }
+    ensures deepest { IfOk result (λ m. Deepest (H.parents host.now) (first ∷ others.now) m.node) }
+    ensures only { IfOk result (λ m. (d : ℕ) → Deepest (H.parents host.now) (first ∷ others.now) d → d ≡ m.node) }
 {
     let n = host.verdict()?;
     if first >= n {

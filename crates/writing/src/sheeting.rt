@@ -29,8 +29,8 @@ fn header(n: usize) -> usize
 
 // Whether each label has no more fields than a tag can hold; the code is named in the contract only.
 pub fn few_fields<C: Code>(code: &C, m: &Marks) -> bool
-    requires marked { Marked (C.Code.words code.now) m.now }
-    ensures { result ≡ row_few (C.Code.words code.now) m.now.up.now }
+    requires marked { Marked (C.words code.now) m.now }
+    ensures { result ≡ row_few (C.words code.now) m.now.up.now }
 {
     for v in 0..m.fields.len() {
         if m.fields[v] > MOST_FIELDS {
@@ -42,8 +42,8 @@ pub fn few_fields<C: Code>(code: &C, m: &Marks) -> bool
 
 // How many bytes a sheet has.
 pub fn measure<C: Code>(code: &C, m: &Marks) -> usize
-    requires marked { Marked (C.Code.words code.now) m.now }
-    ensures { (number : ℕ) → result ≡ length (row_sheet (C.Code.words code.now) m.now.up.now number) }
+    requires marked { Marked (C.words code.now) m.now }
+    ensures { (number : ℕ) → result ≡ length (row_sheet (C.words code.now) m.now.up.now number) }
 {
     let mut end = header(m.up.len());
     for v in 0..m.up.len() {
@@ -54,9 +54,9 @@ pub fn measure<C: Code>(code: &C, m: &Marks) -> usize
 
 // Where each tag begins, and where the last one ends.
 fn put_offsets<C: Code>(code: &C, m: &Marks, number: u16, out: &mut [u8])
-    requires marked { Marked (C.Code.words code.now) m.now }
+    requires marked { Marked (C.words code.now) m.now }
     requires room { 8 + 4 * length m.now.up.now ≤ length out.old }
-    ensures { Wrote 4 (offsets_to (C.Code.words code.now) m.now.up.now number (length m.now.up.now + 1)) out.old out.new }
+    ensures { Wrote 4 (offsets_to (C.words code.now) m.now.up.now number (length m.now.up.now + 1)) out.old out.new }
 {
     let n = m.up.len();
     let mut end = header(n);
@@ -69,9 +69,9 @@ fn put_offsets<C: Code>(code: &C, m: &Marks, number: u16, out: &mut [u8])
 
 // The tags of all nodes.
 fn put_tags<C: Code>(code: &C, m: &Marks, number: u16, out: &mut [u8])
-    requires marked { Marked (C.Code.words code.now) m.now }
-    requires room { row_offset (C.Code.words code.now) m.now.up.now number (length m.now.up.now) ≤ length out.old }
-    ensures { Wrote (8 + 4 * length m.now.up.now) (tags_to (C.Code.words code.now) m.now.up.now number (length m.now.up.now)) out.old out.new }
+    requires marked { Marked (C.words code.now) m.now }
+    requires room { row_offset (C.words code.now) m.now.up.now number (length m.now.up.now) ≤ length out.old }
+    ensures { Wrote (8 + 4 * length m.now.up.now) (tags_to (C.words code.now) m.now.up.now number (length m.now.up.now)) out.old out.new }
 {
     let mut end = header(m.up.len());
     for v in 0..m.up.len() {
@@ -82,9 +82,9 @@ fn put_tags<C: Code>(code: &C, m: &Marks, number: u16, out: &mut [u8])
 
 // The sheet.
 pub fn put_sheet<C: Code>(code: &C, m: &Marks, number: u16, out: &mut [u8])
-    requires marked { Marked (C.Code.words code.now) m.now }
-    requires room { length (row_sheet (C.Code.words code.now) m.now.up.now number) ≤ length out.old }
-    ensures { Wrote 0 (row_sheet (C.Code.words code.now) m.now.up.now number) out.old out.new }
+    requires marked { Marked (C.words code.now) m.now }
+    requires room { length (row_sheet (C.words code.now) m.now.up.now number) ≤ length out.old }
+    ensures { Wrote 0 (row_sheet (C.words code.now) m.now.up.now number) out.old out.new }
 {
     put_two(out, 0, number);
     put_two(out, NODES_AT, m.up.len() as u16);

@@ -37,10 +37,10 @@ fn filled(bits: u16) -> usize
 
 // Where each word of a label ends.
 fn put_ends<C: Code>(code: &C, m: &Marks, out: &mut [u8], at: usize, v: usize)
-    requires marked { Marked (C.Code.words code.now) m.now }
+    requires marked { Marked (C.words code.now) m.now }
     requires inside { v < length m.now.up.now }
-    requires room { at + 2 * length (row_label (C.Code.words code.now) m.now.up.now v) ≤ length out.old }
-    ensures { Wrote at (flat_map two (ends_at (row_label (C.Code.words code.now) m.now.up.now v))) out.old out.new }
+    requires room { at + 2 * length (row_label (C.words code.now) m.now.up.now v) ≤ length out.old }
+    ensures { Wrote at (flat_map two (ends_at (row_label (C.words code.now) m.now.up.now v))) out.old out.new }
 {
     let t = m.top[v] as usize;
     let end = m.bits[v];
@@ -57,10 +57,10 @@ fn put_ends<C: Code>(code: &C, m: &Marks, out: &mut [u8], at: usize, v: usize)
 
 // The depth of the node at each path field of a label.
 fn put_depths<C: Code>(code: &C, m: &Marks, out: &mut [u8], at: usize, v: usize)
-    requires marked { Marked (C.Code.words code.now) m.now }
+    requires marked { Marked (C.words code.now) m.now }
     requires inside { v < length m.now.up.now }
-    requires room { at + length (row_label (C.Code.words code.now) m.now.up.now v) + 1 ≤ length out.old }
-    ensures { Wrote at (flat_map two (depths_in (row_label (C.Code.words code.now) m.now.up.now v))) out.old out.new }
+    requires room { at + length (row_label (C.words code.now) m.now.up.now v) + 1 ≤ length out.old }
+    ensures { Wrote at (flat_map two (depths_in (row_label (C.words code.now) m.now.up.now v))) out.old out.new }
 {
     let t = m.top[v] as usize;
     if t == 0 {
@@ -74,12 +74,12 @@ fn put_depths<C: Code>(code: &C, m: &Marks, out: &mut [u8], at: usize, v: usize)
 
 // The bits of all words of a label, into clear bytes.
 fn put_body<C: Code>(code: &C, m: &Marks, out: &mut [u8], v: usize)
-    requires marked { Marked (C.Code.words code.now) m.now }
+    requires marked { Marked (C.words code.now) m.now }
     requires inside { v < length m.now.up.now }
-    requires room { length (body_in (row_label (C.Code.words code.now) m.now.up.now v)) ≤ 8 * length out.old }
+    requires room { length (body_in (row_label (C.words code.now) m.now.up.now v)) ≤ 8 * length out.old }
     requires long { length out.old < 2 ^ 60 }
     requires clear { (j : ℕ) → slice_index_or (unpacked out.old) j false ≡ false }
-    ensures { Wrote 0 (body_in (row_label (C.Code.words code.now) m.now.up.now v)) (unpacked out.old) (unpacked out.new) }
+    ensures { Wrote 0 (body_in (row_label (C.words code.now) m.now.up.now v)) (unpacked out.old) (unpacked out.new) }
 {
     let t = m.top[v] as usize;
     let word = m.path_high[v] as u32 * HALF_RANGE + m.path_low[v] as u32;
@@ -99,10 +99,10 @@ fn put_body<C: Code>(code: &C, m: &Marks, out: &mut [u8], v: usize)
 
 // The packed body of a label, in as many bytes as it takes.
 fn pack_body<C: Code>(code: &C, m: &Marks, out: &mut [u8], v: usize)
-    requires marked { Marked (C.Code.words code.now) m.now }
+    requires marked { Marked (C.words code.now) m.now }
     requires inside { v < length m.now.up.now }
-    requires room { length out.old ≡ body_bytes (row_label (C.Code.words code.now) m.now.up.now v) }
-    ensures { out.new ≡ pack (body_in (row_label (C.Code.words code.now) m.now.up.now v)) }
+    requires room { length out.old ≡ body_bytes (row_label (C.words code.now) m.now.up.now v) }
+    ensures { out.new ≡ pack (body_in (row_label (C.words code.now) m.now.up.now v)) }
 {
     out.fill(0);
     put_body(code, m, out, v);
@@ -110,10 +110,10 @@ fn pack_body<C: Code>(code: &C, m: &Marks, out: &mut [u8], v: usize)
 
 // The same as a part of a longer output.
 fn put_packed<C: Code>(code: &C, m: &Marks, out: &mut [u8], at: usize, v: usize)
-    requires marked { Marked (C.Code.words code.now) m.now }
+    requires marked { Marked (C.words code.now) m.now }
     requires inside { v < length m.now.up.now }
-    requires room { at + body_bytes (row_label (C.Code.words code.now) m.now.up.now v) ≤ length out.old }
-    ensures { Wrote at (pack (body_in (row_label (C.Code.words code.now) m.now.up.now v))) out.old out.new }
+    requires room { at + body_bytes (row_label (C.words code.now) m.now.up.now v) ≤ length out.old }
+    ensures { Wrote at (pack (body_in (row_label (C.words code.now) m.now.up.now v))) out.old out.new }
 {
     let k = filled(m.bits[v]);
     pack_body(code, m, &mut out[at..at + k], v);
@@ -121,9 +121,9 @@ fn put_packed<C: Code>(code: &C, m: &Marks, out: &mut [u8], at: usize, v: usize)
 
 // How many bytes a tag has; the code is named in the contract only.
 pub fn tag_size<C: Code>(code: &C, m: &Marks, v: usize) -> usize
-    requires marked { Marked (C.Code.words code.now) m.now }
+    requires marked { Marked (C.words code.now) m.now }
     requires inside { v < length m.now.up.now }
-    ensures is { (number : ℕ) → result ≡ length (row_tag (C.Code.words code.now) m.now.up.now number v) }
+    ensures is { (number : ℕ) → result ≡ length (row_tag (C.words code.now) m.now.up.now number v) }
     ensures small { result ≤ most_tag_bytes }
 {
     let k = m.fields[v] as usize;
@@ -132,10 +132,10 @@ pub fn tag_size<C: Code>(code: &C, m: &Marks, v: usize) -> usize
 
 // The tag of a node.
 pub fn put_tag<C: Code>(code: &C, m: &Marks, number: u16, out: &mut [u8], at: usize, v: usize)
-    requires marked { Marked (C.Code.words code.now) m.now }
+    requires marked { Marked (C.words code.now) m.now }
     requires inside { v < length m.now.up.now }
-    requires room { at + length (row_tag (C.Code.words code.now) m.now.up.now number v) ≤ length out.old }
-    ensures { Wrote at (row_tag (C.Code.words code.now) m.now.up.now number v) out.old out.new }
+    requires room { at + length (row_tag (C.words code.now) m.now.up.now number v) ≤ length out.old }
+    ensures { Wrote at (row_tag (C.words code.now) m.now.up.now number v) out.old out.new }
 {
     let k = m.fields[v] as usize;
     put_two(out, at, number);
