@@ -38,7 +38,7 @@ own_word f r x {ws} {j} k e p q = (answer_ok f ws j x (sym k ∙ answer_moved f 
 pub answer_fit : (f : List ℕ → ℕ → Word) → Lawful f → (ws : List ℕ) (i : ℕ) → IfOk (answer f ws i) Fit
 answer_fit f law ws i = go (accepts ws i) refl
   where
-    go : (t : Bool) → accepts ws i ≡ t → IfOk {X = Word} {Y = CodeRefusal} (cond t (Ok (f ws i)) (Err NotAccepted)) Fit
+    go : (t : Bool) → accepts ws i ≡ t → IfOk {T = Word} {E = CodeRefusal} (cond t (Ok (f ws i)) (Err NotAccepted)) Fit
     go true h = law.fit ws i (accepts_weights ws i h) (accepts_index ws i h)
     go false h = tt
 

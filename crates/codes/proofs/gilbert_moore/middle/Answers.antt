@@ -4,7 +4,7 @@ use Rattle.codes.specs.Midpoints.{short}
 use Rattle.codes.proofs.Shifts.{shift_room, shift_is, value_fits}
 use Rattle.codes.proofs.gilbert_moore.middle.Goals as goal
 
-room : (c : goal.In-Loop-scaled) → c.loop-scaled.shift ≤ 14
+room : (c : goal.In-loop-scaled) → c.loop-scaled.shift ≤ 14
 room c = shift_room c.args.weight c.args.total c.loop-scaled.shift (omega arith) (omega arith) (omega arith)
 
 pub overflow_mul-value-in-loop-scaled : goal.overflow_mul-value-in-loop-scaled

@@ -26,10 +26,10 @@ loop-k-preserved c =
         | then-k-index w ↦
             let long = length-take-le (k + 1) ws (omega arith) in
             let l : k < i = w.if-k-index.true in
-            w.before_is ∙ more ∙ ap sum (sym (take_all i (take (k + 1) ws) (omega arith)))
+            w.before-is ∙ more ∙ ap sum (sym (take_all i (take (k + 1) ws) (omega arith)))
         | else-k-index w ↦
             let l : i ≤ k = w.if-k-index.false in
-            w.before_is ∙ c.loop-k.invariant.3 ∙ ap sum (take-take i k ws l ∙ sym (take-take i (k + 1) ws (omega arith)))
+            w.before-is ∙ c.loop-k.invariant.3 ∙ ap sum (take-take i k ws l ∙ sym (take-take i (k + 1) ws (omega arith)))
       ],
     )
 
@@ -47,7 +47,11 @@ invariant_of-result c =
       | then-weight-eq0-via-then-weight-eq0 w ↦ omega (arith, some, w.if-weight-eq0.true)
       | then-weight-eq0-via-else-weight-eq0+then-total-weight-gt-MOST_WEIGHT w ↦ omega (arith, more, upto, e, bounded, w.if-total-weight-gt-MOST_WEIGHT.true)
     ]) in
-    (sym bad, (sym (sum_before_not ws c.args.index bad), (sym (sum_of_all_not ws bad), tt)))
+    record {
+      judged = sym bad;
+      start = sym (sum_before_not ws c.args.index bad);
+      all = sym (sum_of_all_not ws bad);
+    }
 
 pub invariant_of-result-2 : goal.invariant_of-result-2
 invariant_of-result-2 c =
@@ -57,4 +61,8 @@ invariant_of-result-2 c =
     let all : take k ws ≡ ws = take_all k ws c.loop-k-test.false in
     let total_is : c.loop-k.total ≡ sum ws = c.loop-k.invariant.0 ∙ ap sum all in
     let good : fine_list ws ≡ true = fine_yes ws (rw all at c.loop-k.invariant.2) (omega arith) in
-    (sym good, (c.loop-k.invariant.3 ∙ ap (λ xs. sum (take i xs)) all ∙ sym (sum_before_fine ws i good), (total_is ∙ sym (sum_of_all_fine ws good), tt)))
+    record {
+      judged = sym good;
+      start = c.loop-k.invariant.3 ∙ ap (λ xs. sum (take i xs)) all ∙ sym (sum_before_fine ws i good);
+      all = total_is ∙ sym (sum_of_all_fine ws good);
+    }

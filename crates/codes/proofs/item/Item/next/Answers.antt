@@ -11,4 +11,8 @@ overflow_add-before c =
 pub invariant_of-result : goal.invariant_of-result
 invariant_of-result c =
     let t = c.args.self in
-    (t.judged, (omega (arith, t.start, c.share.ensures, sum_before_more t.weights.now t.index), (t.all, tt)))
+    record {
+      judged = t.judged;
+      start = omega (arith, t.start, c.share.ensures, sum_before_more t.weights.now t.index);
+      all = t.all;
+    }

@@ -10,4 +10,8 @@ overflow_sub-before c =
 pub invariant_of-result : goal.invariant_of-result
 invariant_of-result c =
     let t = c.args.self in
-    (t.judged, (omega (arith, t.start, c.share.ensures, sum_before_less t.weights.now t.index (omega arith)), (t.all, tt)))
+    record {
+      judged = t.judged;
+      start = omega (arith, t.start, c.share.ensures, sum_before_less t.weights.now t.index (omega arith));
+      all = t.all;
+    }
