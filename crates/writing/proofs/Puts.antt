@@ -6,9 +6,9 @@ use Rattle.writing.specs.Writes.{Wrote, put}
 
 module _ {A : Type 0} where
   -- a write of a part is a `put`
-  pub put_mid : (a k : ℕ) (bs xs : List A) → length bs ≡ k → put_mid a k xs bs ≡ put a bs xs
+  pub put_mid_lem : (a k : ℕ) (bs xs : List A) → length bs ≡ k → put_mid a k xs bs ≡ put a bs xs
   unfolding put
-  put_mid a k bs xs e = ap (λ zs. take a xs ++ (bs ++ zs)) (drop-drop k a xs ∙ ap (λ n. drop (a + n) xs) (sym e))
+  put_mid_lem a k bs xs e = ap (λ zs. take a xs ++ (bs ++ zs)) (drop-drop k a xs ∙ ap (λ n. drop (a + n) xs) (sym e))
 
   pub length_put : (a : ℕ) (bs xs : List A) → a + length bs ≤ length xs → length (put a bs xs) ≡ length xs
   unfolding put
@@ -67,4 +67,4 @@ module _ {A : Type 0} where
 
   -- a part of a row that is overwritten whole
   pub wrote_part : (a k : ℕ) (bs xs ys : List A) → ys ≡ bs → length bs ≡ k → a + k ≤ length xs → Wrote a bs xs (put_mid a k xs ys)
-  wrote_part a k bs xs ys e n le = record { room = omega arith; is = ap (put_mid a k xs) e ∙ put_mid a k bs xs n }
+  wrote_part a k bs xs ys e n le = record { room = omega arith; is = ap (put_mid a k xs) e ∙ put_mid_lem a k bs xs n }

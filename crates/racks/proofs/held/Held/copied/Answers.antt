@@ -8,7 +8,10 @@ padded-requires c = tag_short c.args.tag.now c.requires
 
 pub invariant_of-result : goal.invariant_of-result
 invariant_of-result c =
-    (omega (arith, c.padded.ensures.long, tag_short c.args.tag.now c.requires), (ap readable c.padded.ensures.front ∙ tag_to c.args.tag.now c.requires, tt))
+    record {
+      within = omega (arith, c.padded.ensures.long, tag_short c.args.tag.now c.requires);
+      reads = ap readable c.padded.ensures.front ∙ tag_to c.args.tag.now c.requires;
+    }
 
 pub returns : goal.returns
 returns c = c.padded.ensures.front

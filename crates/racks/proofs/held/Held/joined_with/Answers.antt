@@ -9,7 +9,7 @@ use Rattle.racks.proofs.held.Held.joined_with.Goals as goal
 
 pub returns-in_err-admit : goal.returns-in_err-admit
 returns-in_err-admit c =
-    let p = err_from_is_err_and c.from-residual.result c.from-residual.ensures.1 in
+    let p = err_from_is_err_and c.from_residual.result c.from_residual.ensures.1 in
     rw (p.1, p.2) (add_first c.args.tree c.args.tag.now (held_bytes c.args.self.now) (refusal_of c.in_err-admit.field-0.0) c.in_err-admit.ensures)
 
 pub front-requires : goal.front-requires

@@ -13,22 +13,22 @@ joined_with-requires c =
     let h : c.args.ticket.now.place < length r.places = omega arith in
     sound_at r.tree r.places r.sound c.args.ticket.now.place _ c.in-Started.held h c.in-Started.is
 
-pub returns-in_err-cover : goal.returns-in_err-cover
-returns-in_err-cover c =
+pub returns-in_err-cover-in-Started : goal.returns-in_err-cover-in-Started
+returns-in_err-cover-in-Started c =
     let r = c.args.self.now in
     let t = started_of c.args.ticket.now in
     let h : t.place < length r.places = omega arith in
     let b = c.args.tag.now in
     let s = held_bytes c.in-Started.held in
     let a = c.in_err-cover.ensures in
-    let p = err_from_is_err_and c.from-residual.result c.from-residual.ensures.1 in
+    let p = err_from_is_err_and c.from_residual.result c.from_residual.ensures.1 in
     record {
       answers = ap (add_said c.args.ticket.now) (p.1 ∙ ap Err p.2) ∙ sym (told_fit r.number r.tree r.places t c.if-ticket-self.false _ _ h c.in-Started.is (adding b) refl ∙ ap (λ (o : Option Refusal). verdict o t (hands t)) a);
       leaves = tried_kept r.number r.tree r.places t c.if-ticket-self.false _ _ h c.in-Started.is (adding b) refl (sym (ap (λ (o : Option Refusal). settled o (started (joined s b)) (started s)) a));
     }
 
-pub returns-in_ok-cover : goal.returns-in_ok-cover
-returns-in_ok-cover c =
+pub returns-in_ok-cover-in-Started : goal.returns-in_ok-cover-in-Started
+returns-in_ok-cover-in-Started c =
     let r = c.args.self.now in
     let t = started_of c.args.ticket.now in
     let h : t.place < length r.places = omega arith in
