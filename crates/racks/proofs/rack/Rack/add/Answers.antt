@@ -20,7 +20,7 @@ returns-in_err-cover-in-Started c =
     let h : t.place < length r.places = omega arith in
     let b = c.args.tag.now in
     let s = held_bytes c.in-Started.held in
-    let a = c.in_err-cover.ensures in
+    let a = c.in_err-cover-in-Started.ensures in
     let p = err_from_is_err_and c.from_residual.result c.from_residual.ensures.1 in
     record {
       answers = ap (add_said c.args.ticket.now) (p.1 ∙ ap Err p.2) ∙ sym (told_fit r.number r.tree r.places t c.if-ticket-self.false _ _ h c.in-Started.is (adding b) refl ∙ ap (λ (o : Option Refusal). verdict o t (hands t)) a);
@@ -34,10 +34,10 @@ returns-in_ok-cover-in-Started c =
     let h : t.place < length r.places = omega arith in
     let b = c.args.tag.now in
     let s = held_bytes c.in-Started.held in
-    let a = c.in_ok-cover.ensures in
+    let a = c.in_ok-cover-in-Started.ensures in
     record {
       answers = sym (told_fit r.number r.tree r.places t c.if-ticket-self.false _ _ h c.in-Started.is (adding b) refl ∙ ap (λ (o : Option Refusal). verdict o t (hands t)) a.0);
-      leaves = tried_put r.number r.tree r.places t c.if-ticket-self.false _ _ h c.in-Started.is (adding b) refl (Started c.in_ok-cover.cover) (ap started a.1 ∙ sym (ap (λ (o : Option Refusal). settled o (started (joined s b)) (started s)) a.0));
+      leaves = tried_put r.number r.tree r.places t c.if-ticket-self.false _ _ h c.in-Started.is (adding b) refl (Started c.in_ok-cover-in-Started.cover) (ap started a.1 ∙ sym (ap (λ (o : Option Refusal). settled o (started (joined s b)) (started s)) a.0));
     }
 
 pub returns-in-Empty : goal.returns-in-Empty
