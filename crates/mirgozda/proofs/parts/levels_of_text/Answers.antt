@@ -36,7 +36,7 @@ loop-preserved c =
     taken n i c.loop.rest.now c.trim_return-line.result.now more
     c.loop-test.true (c.trim_return-line.ensures ∙ ap without_return c.split_line.ensures.line) c.split_line.ensures.rest
     (Some c.in-Some.n) (sym c.is_empty.ensures ∙ c.if-is_empty.false) c.in-Some.ensures in
-    ap (λ xs. after xs (levels_of (n - (i + 1)) more)) c.in_ok-push.ensures.items
+    ap (λ xs. after xs (levels_of (n - (i + 1)) more)) c.in_ok-push-in-Some.ensures.items
     ∙ (after_one (vec_items c.loop.all) c.in-Some.n (levels_of (n - (i + 1)) more)
     ∙ (sym (ap (after (vec_items c.loop.all)) t) ∙ c.loop.invariant))
 
