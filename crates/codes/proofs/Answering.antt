@@ -1,5 +1,5 @@
 -- What an answered word says, by any code.
-use Rattle.std.proofs.Common.{◌≡◌, ℕ, ◌<◌, Bool, true, false, cond, List, IfOk, Ok, Err, Result, sym, refl, ap, ◌∙◌, subst, ap₂, subst₂}
+use Rattle.std.proofs.Common.{◌≡◌, ℕ, ◌<◌, Bool, true, false, cond, List, IfOk, Ok, Err, Result, sym, refl, ap, ◌∙◌, ap₂, subst₂}
 use Rattle.std.proofs.lemmas.Bool.{and_from}
 use Rattle.codes.specs.declared.word.Word.{Word}
 use Rattle.codes.specs.declared.code.CodeRefusal.{CodeRefusal}

@@ -1,7 +1,7 @@
 -- Nothing here need be believed.
 -- The arithmetic of the code of Gilbert and Moore.
 use Rattle.std.specs.Prelude.{◌≡◌, ℕ, zero, suc, ◌+◌, ◌-◌, ◌*◌, ◌/◌, ◌^◌, ◌<◌, ◌≤◌, Bool, true, false, cond, ◌⊎◌, nat_le, refl}
-use Rattle.std.proofs.Common.{sym, ap, ◌∙◌, subst, subst₂, inl, inr, add-mul, mul_assoc, mul-le-mul_right, mul-le-mul, div-mul-le_self, le-div_iff_mul-le, div-lt_iff_lt-mul, arith, pow_pos, pow-add, pow_mono, leb-true, leb-false}
+use Rattle.std.proofs.Common.{sym, ap, ◌∙◌, subst₂, inl, inr, add-mul, mul_assoc, mul-le-mul_right, div-mul-le_self, le-div_iff_mul-le, div-lt_iff_lt-mul, arith, pow_pos, pow-add, pow_mono, leb-true, leb-false}
 use Rattle.std.proofs.Math.Nat.{pow-succ', div-div-eq-div-mul, mul-div-mul_right}
 use Rattle.std.proofs.lemmas.Bool.{cases_lt}
 use Rattle.codes.specs.Words.{digits}

@@ -1,5 +1,5 @@
 -- From the bytes of two tags to the answers.
-use Rattle.std.proofs.Common.{◌≡◌, ℕ, zero, suc, ◌+◌, ◌-◌, ◌*◌, ◌/◌, ◌%◌, ◌<◌, ◌≤◌, Bool, true, false, cond, not, ◌&&◌, eqb, ltb, List, [], ◌∷◌, ◌++◌, map, length, take, pos, negsuc, ◌+ℤ◌, Some, None, Ok, Err, Option, Result, sym, refl, ap, ◌∙◌, subst, arith}
+use Rattle.std.proofs.Common.{◌≡◌, ℕ, zero, suc, ◌+◌, ◌-◌, ◌*◌, ◌/◌, ◌%◌, ◌<◌, ◌≤◌, Bool, true, false, cond, not, ◌&&◌, eqb, ltb, List, [], ◌∷◌, map, length, take, pos, negsuc, ◌+ℤ◌, Some, None, Ok, Err, Option, sym, refl, ap, ◌∙◌, subst, arith}
 use lib.IntN.{sub_ℕ}
 use Rattle.std.specs.List.{range_with_len}
 use Rattle.std.proofs.lemmas.List.FromFn.{length-map-range_with_len, take-map-range_with_len, map-range_with_len_more}
@@ -20,9 +20,9 @@ use Rattle.formats.specs.Layout.{tree_of, count_of, depth_at}
 use Rattle.formats.specs.Faults.{first_of, tag_fault}
 use Rattle.formats.specs.Models.{field_at, label_of, outcome}
 use Rattle.formats.specs.Pairs.{same_word, first_apart, nth_field, clash, difference_at, difference, cover_at, cover, side_of, fields_of, ended, relation_by, relation, last_depth, depth_in, related}
-use Rattle.formats.specs.Queries.{fault_on, pair_fault, on_labels, difference_answer, cover_answer, relate_answer}
+use Rattle.formats.specs.Queries.{fault_on, pair_fault, on_labels}
 use Rattle.formats.specs.Theorems.{Shared, Exact}
-use Rattle.formats.proofs.Readable.{Readable, is_readable}
+use Rattle.formats.proofs.Readable.{is_readable}
 use Rattle.formats.proofs.Fields.{path_here}
 use Rattle.formats.proofs.Read.{chain_of}
 use Rattle.formats.proofs.Spans.{shallow}

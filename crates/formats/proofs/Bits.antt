@@ -1,13 +1,12 @@
 -- Bits of words and of packed bytes.
-use Rattle.std.proofs.Common.{◌≡◌, ℕ, zero, suc, ◌+◌, ◌-◌, ◌*◌, ◌/◌, ◌%◌, ◌^◌, ◌<◌, ◌≤◌, Bool, true, false, cond, eqb, ◌⊎◌, List, [], ◌∷◌, map, length, get_or, drop, sym, refl, ap, ◌∙◌, subst, inl, inr, ⊎_elim, true≢false, arith, get_or-drop}
+use Rattle.std.proofs.Common.{◌≡◌, ℕ, zero, suc, ◌+◌, ◌-◌, ◌*◌, ◌/◌, ◌%◌, ◌^◌, ◌<◌, ◌≤◌, Bool, true, false, eqb, List, [], ◌∷◌, length, get_or, drop, sym, refl, ap, ◌∙◌, true≢false, arith, get_or-drop}
 use mathlib.Core.Bool.{beq}
-use Rattle.std.specs.List.{range_with_len, between}
+use Rattle.std.specs.List.{between}
 use Rattle.std.proofs.lemmas.List.FromFn.{length-map-range_with_len, get_or-map-range_with_len, fill_by_all}
-use Rattle.std.proofs.lemmas.List.Edits.{get_or-between, length-between}
-use Rattle.std.proofs.lemmas.Bool.{eq-eqb, ne_eqb, cond-true, cond-false}
-use Rattle.formats.specs.Label.{Word, word_in, path, branch}
-use Rattle.formats.specs.Layout.{count_of, head_of, begin_at, end_at, bit_at, depth_at}
-use Rattle.formats.proofs.Readable.{Readable}
+use Rattle.std.proofs.lemmas.List.Edits.{get_or-between}
+use Rattle.std.proofs.lemmas.Bool.{cond-true, cond-false}
+use Rattle.formats.specs.Label.{Word}
+use Rattle.formats.specs.Layout.{head_of, begin_at, end_at, bit_at}
 use Rattle.formats.proofs.Spans.{Span}
 use Rattle.formats.specs.Words.{bits_at, word_at, byte_at, pack, digit, digit_at}
 use Rattle.formats.specs.Pairs.{same_bit, lead}

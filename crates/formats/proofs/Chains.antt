@@ -1,12 +1,10 @@
 -- Words and depths of a chain of fields.
-use Rattle.std.proofs.Common.{◌≡◌, ℕ, zero, suc, ◌+◌, ◌-◌, ◌*◌, ◌/◌, ◌%◌, ◌<◌, ◌≤◌, Bool, true, false, cond, eqb, List, [], ◌∷◌, ◌++◌, map, length, get_or, take, drop, sym, refl, ap, ◌∙◌, subst, ⊎_elim, arith}
+use Rattle.std.proofs.Common.{◌≡◌, ℕ, zero, suc, ◌+◌, ◌-◌, ◌*◌, ◌/◌, ◌%◌, ◌<◌, ◌≤◌, false, cond, eqb, List, [], ◌∷◌, ◌++◌, length, get_or, take, refl, ap, ◌∙◌, arith}
 use Rattle.std.specs.List.{flat_map}
 use Rattle.std.proofs.lemmas.List.{length-append, get_or_append_left, get_or-append_right}
-use Rattle.std.proofs.lemmas.Bool.{cases_lt}
 use Rattle.formats.specs.Limits.{most_depth, most_field_bits}
-use Rattle.formats.specs.Label.{Word, Field, path, branch, Label, word_in, words_in, depths_in, body_in, Fit, Chain}
+use Rattle.formats.specs.Label.{Word, path, branch, Label, words_in, depths_in, body_in, Fit, Chain}
 use Rattle.formats.specs.Models.{ends_from, field_by}
-use Rattle.formats.proofs.Fields.{field_even, field_odd}
 
 -- words one after the other
 abbrev pub flat : List Word → Word

@@ -1,18 +1,12 @@
 -- A cover can be cut out, and is no deeper than either label.
-use Rattle.std.proofs.Common.{◌≡◌, ℕ, zero, suc, ◌+◌, ◌-◌, ◌*◌, ◌/◌, ◌%◌, ◌<◌, ◌≤◌, Bool, true, false, cond, not, ◌&&◌, ◌||◌, eqb, ltb, leb, List, [], ◌∷◌, ◌++◌, map, length, get_or, take, Some, None, Option, sym, refl, ap, ◌∙◌, subst, ⊎_elim, arith}
-use Rattle.std.specs.List.{range_with_len}
-use Rattle.std.proofs.lemmas.List.FromFn.{take-map-range_with_len, map-range_with_len_more}
-use Rattle.std.proofs.lemmas.Bool.{cases_Bool, eqb-true, ltb-true, or_parts, not-false, cond-true, cond-false}
+use Rattle.std.proofs.Common.{◌≡◌, ℕ, suc, ◌+◌, ◌%◌, ◌<◌, ◌≤◌, Bool, true, false, cond, not, ◌||◌, eqb, ltb, [], ◌∷◌, ◌++◌, length, take, Some, None, Option, sym, refl, ap, ◌∙◌, subst, ⊎_elim, arith}
+use Rattle.std.proofs.lemmas.Bool.{cases_Bool, eqb-true, ltb-true, or_parts}
 use Rattle.formats.specs.declared.answers.Side.{Side}
 use Rattle.formats.specs.declared.answers.Side.TheVariants.{First, Second}
 use Rattle.formats.specs.declared.answers.Part.{Part}
-use Rattle.formats.specs.Label.{Word, Field, path, branch, Label, word_in, Fit, Chain}
-use Rattle.formats.specs.Layout.{count_of, depth_at}
-use Rattle.formats.specs.Words.{word_at}
-use Rattle.formats.specs.Models.{field_at, label_of}
+use Rattle.formats.specs.Label.{Word, Field, path, branch, Label, word_in, Chain}
 use Rattle.formats.specs.Theorems.{Shared}
 use Rattle.formats.specs.Pairs.{same_word, zero_first, begins, unlike, misplaced, first_apart, nth_field, two_depths, clash_at, clash, cover_at, cover, side_of, depth_in, last_depth}
-use Rattle.formats.proofs.Fields.{path_here}
 
 -- depths
 pub end_last : (xs : Label) (x : Field) → last_depth (xs ++ (x ∷ [])) ≡ depth_in x

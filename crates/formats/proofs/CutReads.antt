@@ -1,15 +1,14 @@
 -- A cut tag reads as the first fields of the tag.
-use Rattle.std.proofs.Common.{◌≡◌, ℕ, zero, suc, ◌+◌, ◌-◌, ◌*◌, ◌/◌, ◌%◌, ◌^◌, ◌<◌, ◌≤◌, Bool, true, false, cond, ◌&&◌, eqb, List, [], ◌∷◌, ◌++◌, map, length, get_or, take, drop, sym, refl, ap, ◌∙◌, subst, ⊎_elim, arith, get_or-drop}
+use Rattle.std.proofs.Common.{◌≡◌, ℕ, zero, suc, ◌+◌, ◌-◌, ◌*◌, ◌/◌, ◌%◌, ◌^◌, ◌<◌, ◌≤◌, false, eqb, List, [], map, length, get_or, take, drop, sym, refl, ap, ◌∙◌, ⊎_elim, arith, get_or-drop}
 use Rattle.std.specs.List.{range_with_len}
 use Rattle.std.proofs.lemmas.Nat.{shr_split, shl-shr, shr-shr, pow_pos, mod_low}
 use Rattle.std.proofs.lemmas.List.FromFn.{fill_by_all, length-map-range_with_len, get_or-map-range_with_len, take-map-range_with_len}
-use Rattle.std.proofs.lemmas.Bool.{and_from, cases_lt}
-use Rattle.formats.specs.Label.{Word, Field, path, branch, Label}
-use Rattle.formats.specs.Models.{tag_bytes, field_by, field_at, label_of}
-use Rattle.formats.specs.Layout.{all_below, pair_at, tree_of, count_of, head_of, bits_of, size_of, end_at, begin_at, depth_at, least_at, end_step, depth_step, end_fine, depth_fine, spare_of, spare_at, bit_at}
+use Rattle.std.proofs.lemmas.Bool.{cases_lt}
+use Rattle.formats.specs.Label.{branch}
+use Rattle.formats.specs.Models.{field_by, field_at, label_of}
+use Rattle.formats.specs.Layout.{all_below, pair_at, tree_of, count_of, head_of, bits_of, end_at, begin_at, depth_at, least_at, end_step, depth_step, end_fine, depth_fine, spare_of, bit_at}
 use Rattle.formats.proofs.Readable.{Readable}
-use Rattle.formats.proofs.Spans.{Span}
-use Rattle.formats.specs.Words.{word_at, bits_at}
+use Rattle.formats.specs.Words.{word_at}
 use Rattle.formats.proofs.Below.{all_at, all_from}
 use Rattle.formats.proofs.Bits.{bit_same, length_bits, get_d_bits}
 use Rattle.formats.proofs.Readable.{Readable}

@@ -1,12 +1,10 @@
 -- A cut tag is the bytes of its first fields.
-use Rattle.std.proofs.Common.{◌≡◌, ℕ, ◌+◌, ◌-◌, ◌*◌, ◌/◌, ◌%◌, ◌<◌, ◌≤◌, ◌||◌, eqb, ltb, List, [], ◌∷◌, ◌++◌, length, get_or, take, drop, Some, None, Ok, Err, Option, sym, refl, ap, ◌∙◌, subst, arith}
+use Rattle.std.proofs.Common.{◌≡◌, ℕ, ◌+◌, ◌-◌, ◌*◌, ◌%◌, ◌<◌, ◌≤◌, ◌||◌, eqb, ltb, List, [], ◌∷◌, ◌++◌, length, get_or, take, drop, Some, None, Ok, Err, sym, ap, ◌∙◌, subst, arith}
 use Rattle.std.proofs.lemmas.List.FromFn.{take-map-range_with_len}
 use Rattle.std.proofs.lemmas.List.{take_at}
 use Rattle.std.proofs.lemmas.Bool.{cond-true, cond-false, or_from, ne_eqb, le-ltb, lt-ltb}
-use Rattle.formats.specs.declared.fault.CutRefusal.{CutRefusal}
-use Rattle.formats.specs.declared.fault.CutRefusal.TheVariants.{InTag, Fields, Room}
+use Rattle.formats.specs.declared.fault.CutRefusal.TheVariants.{Fields, Room}
 use Rattle.formats.specs.Faults.{first_of, tag_fault}
-use Rattle.formats.specs.Label.{Label}
 use Rattle.formats.specs.Layout.{tree_of, count_of, end_at, spare_of}
 use Rattle.formats.specs.Models.{tag_bytes, field_at, label_of, outcome, read_tag}
 use Rattle.formats.specs.Cuts.{cut_tag, cut_after, cut_fault, cut_answer, written_over, cut_output}

@@ -1,10 +1,9 @@
 -- The label that a row of bytes reads as, field by field.
-use Rattle.std.proofs.Common.{◌≡◌, ℕ, zero, suc, ◌+◌, ◌-◌, ◌*◌, ◌/◌, ◌%◌, ◌<◌, ◌≤◌, Bool, true, false, cond, eqb, List, [], ◌∷◌, ◌++◌, map, length, get_or, take, drop, sym, refl, ap, ◌∙◌, subst, arith}
+use Rattle.std.proofs.Common.{◌≡◌, ℕ, zero, suc, ◌+◌, ◌*◌, ◌/◌, ◌%◌, Bool, true, false, cond, eqb, List, [], ◌∷◌, map, refl, ap, ◌∙◌, arith}
 use Rattle.std.specs.List.{range_with_len}
 use Rattle.std.proofs.lemmas.Bool.{eq-eqb, ne_eqb, cond-true, cond-false}
-use Rattle.formats.specs.Label.{Word, Field, path, branch, Label, word_in, words_in, depths_in, body_in, Fit, Chain, Fine}
+use Rattle.formats.specs.Label.{Word, path, branch, Label, word_in, words_in, depths_in}
 use Rattle.formats.specs.Layout.{count_of, depth_at}
-use Rattle.formats.proofs.Readable.{Readable}
 use Rattle.formats.specs.Words.{word_at}
 use Rattle.formats.specs.Models.{field_by, field_at, label_of}
 

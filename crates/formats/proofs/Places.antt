@@ -1,15 +1,14 @@
 -- Field j of two tags, by the numbers that their bytes hold.
-use Rattle.std.proofs.Common.{◌≡◌, ℕ, ◌+◌, ◌-◌, ◌*◌, ◌/◌, ◌%◌, ◌<◌, ◌≤◌, min, max, Bool, true, false, cond, not, ◌&&◌, ◌||◌, eqb, ltb, leb, List, length, get_or, drop, Some, None, Option, sym, refl, ap, ◌∙◌, ⊎_elim, arith, get_or-drop}
+use Rattle.std.proofs.Common.{◌≡◌, ℕ, ◌+◌, ◌-◌, ◌*◌, ◌/◌, ◌%◌, ◌<◌, ◌≤◌, min, max, Bool, true, false, cond, not, ◌&&◌, ◌||◌, eqb, ltb, leb, List, length, get_or, drop, Some, None, sym, refl, ap, ◌∙◌, ⊎_elim, arith, get_or-drop}
 use Rattle.std.proofs.lemmas.Bool.Decides.{nat_tests}
-use Rattle.std.proofs.lemmas.Bool.{eq-eqb, ne_eqb, lt-ltb, le-ltb, le-leb, lt-leb, and_left, and_right, cases_lt, cond-true, cond-false}
-use Rattle.formats.specs.declared.answers.Difference.{Difference}
+use Rattle.std.proofs.lemmas.Bool.{lt-ltb, le-ltb, le-leb, lt-leb, and_left, and_right, cases_lt, cond-true, cond-false}
 use Rattle.formats.specs.declared.answers.Difference.TheVariants.{Same, FirstEnded, SecondEnded, At}
 use Rattle.formats.specs.declared.answers.Side.TheVariants.{First, Second}
 use Rattle.formats.specs.declared.answers.Part.{Part}
-use Rattle.formats.specs.Label.{Word, Field, path, branch, word_in}
+use Rattle.formats.specs.Label.{path, branch, word_in}
 use Rattle.formats.specs.Layout.{count_of, head_of, begin_at, end_at, depth_at, bit_at}
-use Rattle.formats.specs.Words.{word_at, bits_at}
-use Rattle.formats.specs.Models.{field_by, field_at, label_of}
+use Rattle.formats.specs.Words.{word_at}
+use Rattle.formats.specs.Models.{field_at, label_of}
 use Rattle.formats.specs.Pairs.{lead, same_word, zero_first, begins, unlike, misplaced, nth_field, clash_at, difference_at, cover_at, ended}
 use Rattle.formats.proofs.Bits.{length_bits, get_d_bits, bit_same, lead_is}
 use Rattle.formats.proofs.Fields.{field_even, field_odd, word_by}

@@ -1,14 +1,12 @@
 -- What a readable row reads as can be written, and gives the row.
-use Rattle.std.proofs.Common.{◌≡◌, ℕ, zero, suc, ◌+◌, ◌-◌, ◌*◌, ◌/◌, ◌%◌, ◌^◌, ◌<◌, ◌≤◌, Bool, true, false, cond, ltb, List, [], ◌∷◌, ◌++◌, map, length, get_or, take, drop, Some, None, Ok, Err, Option, sym, refl, ap, ◌∙◌, subst, ⊎_elim, add-one, arith, length-take, get_or-drop, get_or-take}
-use Rattle.std.specs.List.{between}
+use Rattle.std.proofs.Common.{◌≡◌, ℕ, zero, suc, ◌+◌, ◌-◌, ◌*◌, ◌/◌, ◌<◌, ◌≤◌, List, length, drop, Some, None, Ok, Err, Option, sym, refl, ap, ◌∙◌, subst, add-one, arith}
 use Rattle.std.proofs.lemmas.List.FromFn.{length-map-range_with_len}
-use Rattle.std.proofs.lemmas.List.{get_or_append_left, get_or-append_right, get_or_past}
-use Rattle.std.proofs.lemmas.Bool.{and_parts, leb-true, cases_lt}
+use Rattle.std.proofs.lemmas.Bool.{and_parts, leb-true}
 use Rattle.formats.specs.Limits.{most_depth}
-use Rattle.formats.specs.Label.{Word, Field, path, branch, Label, body_in, Fit, Chain, Fine}
-use Rattle.formats.specs.Layout.{count_of, tree_of, head_of, bits_of, begin_at, end_at, depth_at, least_at, depth_fine, spare_of}
+use Rattle.formats.specs.Label.{Label, Fit, Chain, Fine}
+use Rattle.formats.specs.Layout.{count_of, tree_of, head_of, bits_of, begin_at, end_at, depth_at, least_at, depth_fine}
 use Rattle.formats.proofs.Readable.{Readable}
-use Rattle.formats.specs.Words.{word_at, bits_at}
+use Rattle.formats.specs.Words.{word_at}
 use Rattle.formats.specs.Models.{tag_bytes, field_at, label_of, outcome, read_tag}
 use Rattle.formats.specs.Theorems.{Bytes}
 use Rattle.formats.proofs.Readable.{is_readable}

@@ -1,7 +1,6 @@
 -- Bytes without a fault, in facts.
-use Rattle.std.proofs.Common.{◌≡◌, ℕ, zero, suc, ◌+◌, ◌*◌, ◌/◌, ◌%◌, ◌<◌, ◌≤◌, Bool, true, false, cond, not, ◌&&◌, ◌||◌, eqb, ltb, List, [], ◌∷◌, length, Some, None, Option, sym, refl, ap, ◌∙◌, arith}
-use Rattle.std.proofs.lemmas.Bool.{or_from, or_parts, le-ltb, ltb-false, eqb-false, not-false, ne_eqb, eq-eqb, cond-false, eqb-true}
-use Rattle.formats.specs.declared.fault.TagFault.{TagFault}
+use Rattle.std.proofs.Common.{◌≡◌, ℕ, ◌+◌, ◌/◌, ◌%◌, ◌<◌, ◌≤◌, Bool, true, false, cond, not, eqb, ltb, List, length, Some, None, Option, sym, refl, ap, ◌∙◌, arith}
+use Rattle.std.proofs.lemmas.Bool.{or_from, or_parts, le-ltb, ltb-false, eqb-false, ne_eqb, eq-eqb, cond-false, eqb-true}
 use Rattle.formats.specs.Limits.{most_fields}
 use Rattle.formats.specs.Layout.{tree_of, count_of, head_of, size_of, ends_fine, depths_fine, spare_at}
 use Rattle.formats.specs.Faults.{first_of, fault_tests, tag_fault}

@@ -1,17 +1,15 @@
 -- The bytes of what a readable row reads as are that row.
-use Rattle.std.proofs.Common.{◌≡◌, ℕ, zero, suc, ◌+◌, ◌-◌, ◌*◌, ◌/◌, ◌%◌, ◌^◌, ◌<◌, ◌≤◌, Bool, true, false, cond, eqb, List, [], ◌∷◌, ◌++◌, map, length, get_or, take, drop, sym, refl, ap, ◌∙◌, subst, ⊎_elim, append_assoc, add-one, arith, length-drop, take-append-drop, get_or-drop}
-use native.Mathlib.Nat.{mul-mod_left}
+use Rattle.std.proofs.Common.{◌≡◌, ℕ, zero, suc, ◌+◌, ◌-◌, ◌*◌, ◌/◌, ◌%◌, ◌^◌, ◌<◌, ◌≤◌, false, List, [], ◌∷◌, ◌++◌, map, length, get_or, take, drop, sym, refl, ap, ◌∙◌, ⊎_elim, add-one, arith, length-drop, take-append-drop, get_or-drop}
 use Rattle.std.specs.List.{range_with_len, between, flat_map}
 use Rattle.std.proofs.lemmas.Nat.{shr_split, shl-shr, pow-add}
-use Rattle.std.proofs.lemmas.List.FromFn.{fill_by_all, length-map-range_with_len, get_or-map-range_with_len}
+use Rattle.std.proofs.lemmas.List.FromFn.{fill_by_all, length-map-range_with_len}
 use Rattle.std.proofs.lemmas.List.Edits.{between_none}
 use Rattle.std.proofs.lemmas.List.{drop_more, drop-drop, get_or_append_left, get_or-append_right, length-append, get_or_past}
 use Rattle.std.proofs.lemmas.Bool.{cases_lt}
-use Rattle.formats.specs.Layout.{pair_at, tree_of, count_of, head_of, bits_of, size_of, end_at, begin_at, depth_at, spare_of, spare_at, bit_at}
+use Rattle.formats.specs.Layout.{pair_at, tree_of, count_of, head_of, bits_of, end_at, begin_at, spare_of, bit_at}
 use Rattle.formats.proofs.Readable.{Readable}
-use Rattle.formats.proofs.Spans.{Span}
-use Rattle.formats.specs.Label.{Word, Label, Field, path, branch, word_in, words_in, depths_in, body_in, Chain, Fine}
-use Rattle.formats.specs.Models.{two, ends_from, tag_bytes, field_at, field_by, label_of, outcome, read_tag}
+use Rattle.formats.specs.Label.{words_in, depths_in, body_in}
+use Rattle.formats.specs.Models.{two, ends_from, tag_bytes, field_at, label_of}
 use Rattle.formats.proofs.Fields.{words_are_at, depths_are_at}
 use Rattle.formats.specs.Words.{word_at, bits_at, byte_at, pack, digit, digit_at}
 use Rattle.formats.proofs.Bits.{length_bits, get_d_bits, digit_bit}

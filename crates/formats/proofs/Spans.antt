@@ -1,8 +1,8 @@
 -- Bounds of the fields of a readable row.
-use Rattle.std.proofs.Common.{◌≡◌, ℕ, zero, suc, ◌+◌, ◌-◌, ◌/◌, ◌<◌, ◌≤◌, List, sym, refl, ap, ◌∙◌, subst, ⊎_elim, arith}
+use Rattle.std.proofs.Common.{◌≡◌, ℕ, zero, suc, ◌+◌, ◌-◌, ◌/◌, ◌<◌, ◌≤◌, List, refl, ap, subst, ⊎_elim, arith}
 use Rattle.std.proofs.lemmas.Bool.{and_parts, ltb-true, leb-true, cases_eq}
 use Rattle.formats.specs.Limits.{most_field_bits, most_body_bits, most_depth}
-use Rattle.formats.specs.Layout.{begin_at, end_at, depth_at, count_of, end_fine, depth_fine, ends_fine, bits_of}
+use Rattle.formats.specs.Layout.{begin_at, end_at, depth_at, count_of, end_fine, depth_fine, bits_of}
 use Rattle.formats.proofs.Below.{all_at}
 use Rattle.formats.proofs.Readable.{Readable}
 

@@ -1,20 +1,19 @@
 -- The round trips, and the marked example.
-use Rattle.std.proofs.Common.{◌≡◌, ℕ, zero, suc, ◌+◌, ◌-◌, ◌*◌, ◌/◌, ◌%◌, ◌<◌, ◌≤◌, true, ltb, List, [], ◌∷◌, ◌++◌, map, length, get_or, take, None, Ok, sym, refl, ap, ◌∙◌, subst, ⊎_elim, arith}
-use Rattle.std.specs.List.{range_with_len, flat_map}
+use Rattle.std.proofs.Common.{◌≡◌, ℕ, zero, suc, ◌+◌, ◌/◌, ◌<◌, ◌≤◌, List, [], ◌∷◌, ◌++◌, length, get_or, None, Ok, refl, ap, subst, ⊎_elim, arith}
+use Rattle.std.specs.List.{flat_map}
 use Rattle.std.proofs.lemmas.List.FromFn.{length-map-range_with_len, get_or-map-range_with_len}
 use Rattle.std.proofs.lemmas.List.{get_or_past}
-use Rattle.std.proofs.lemmas.Bool.{cases_lt, cond-true, or_right}
-use Rattle.formats.specs.Label.{Word, Label, words_in, depths_in, body_in, WellFormed, Fine}
+use Rattle.std.proofs.lemmas.Bool.{cases_lt}
+use Rattle.formats.specs.Label.{Word, Label, words_in, depths_in, body_in, Fine}
 use Rattle.formats.specs.Layout.{tree_of}
-use Rattle.formats.proofs.Readable.{Readable}
 use Rattle.formats.specs.Faults.{tag_fault}
 use Rattle.formats.specs.Words.{byte_at, pack}
 use Rattle.formats.specs.Models.{two, ends_from, tag_bytes, label_of, outcome, read_tag}
 use Rattle.formats.specs.Theorems.{Bytes, RoundTrip, Reads, Marked}
-use Rattle.formats.proofs.Readable.{no_fault, is_readable}
+use Rattle.formats.proofs.Readable.{is_readable}
 use Rattle.formats.proofs.Bits.{eight}
-use Rattle.formats.proofs.Chains.{flat, flat_all, ends_at, length_ends, length_words, chain_shallow}
-use Rattle.formats.proofs.Written.{written, reads_back, length_tag}
+use Rattle.formats.proofs.Chains.{flat_all, ends_at, length_ends, chain_shallow}
+use Rattle.formats.proofs.Written.{reads_back, length_tag}
 use Rattle.formats.proofs.Small.{bytes_append, byte_one}
 use Rattle.formats.proofs.Read.{outcome_ok, written_back, fine_label}
 

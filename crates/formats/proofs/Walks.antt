@@ -1,5 +1,5 @@
 -- The walk along two labels, field by field, to the first at which one has ended or the words differ.
-use Rattle.std.proofs.Common.{◌≡◌, ℕ, zero, suc, ◌+◌, ◌<◌, ◌≤◌, Bool, true, false, cond, ◌||◌, List, [], ◌∷◌, length, drop, Some, None, Option, sym, refl, ap, ◌∙◌, subst, add-one, arith}
+use Rattle.std.proofs.Common.{◌≡◌, ℕ, zero, suc, ◌+◌, ◌<◌, true, false, ◌||◌, [], ◌∷◌, length, drop, Some, None, sym, refl, ap, ◌∙◌, subst, add-one, arith}
 use Rattle.formats.specs.Label.{Field, Label, word_in}
 use Rattle.formats.specs.Pairs.{same_word, unlike, first_apart, nth_field, two_depths, clash_at, clash}
 

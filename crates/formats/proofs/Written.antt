@@ -1,18 +1,18 @@
 -- What is written reads as what it was.
-use Rattle.std.proofs.Common.{◌≡◌, ℕ, zero, suc, ◌+◌, ◌-◌, ◌*◌, ◌/◌, ◌%◌, ◌^◌, ◌<◌, ◌≤◌, Bool, true, false, cond, List, [], ◌∷◌, ◌++◌, map, length, get_or, take, drop, Ok, Err, sym, refl, ap, ◌∙◌, subst, append_assoc, arith, get_or-drop, drop_at}
-use Rattle.std.specs.List.{range_with_len, flat_map}
+use Rattle.std.proofs.Common.{◌≡◌, ℕ, zero, suc, ◌+◌, ◌-◌, ◌*◌, ◌/◌, ◌%◌, ◌^◌, ◌<◌, ◌≤◌, true, false, List, [], ◌∷◌, ◌++◌, length, get_or, take, drop, Ok, sym, refl, ap, ◌∙◌, append_assoc, arith, get_or-drop, drop_at}
+use Rattle.std.specs.List.{flat_map}
 use Rattle.std.proofs.lemmas.List.FromFn.{fill_by_all, length-map-range_with_len, get_or-map-range_with_len}
-use Rattle.std.proofs.lemmas.List.{length-append, get_or_append_left, get_or-append_right, get_or_past}
+use Rattle.std.proofs.lemmas.List.{length-append, get_or-append_right, get_or_past}
 use Rattle.std.proofs.lemmas.Bool.{and_from, lt-ltb, le-leb}
-use Rattle.formats.specs.Label.{Word, Field, path, branch, Label, word_in, words_in, depths_in, body_in, Fit, Chain, Fine}
-use Rattle.formats.specs.Layout.{pair_at, tree_of, count_of, head_of, bits_of, size_of, begin_at, end_at, depth_at, least_at, end_step, depth_step, end_fine, depth_fine, spare_of, spare_at, bit_at}
+use Rattle.formats.specs.Label.{Word, branch, Label, words_in, depths_in, body_in, Fine}
+use Rattle.formats.specs.Layout.{pair_at, tree_of, head_of, bits_of, begin_at, end_at, depth_at, least_at, end_step, depth_step, end_fine, depth_fine, spare_of, spare_at, bit_at}
 use Rattle.formats.proofs.Readable.{Readable}
 use Rattle.formats.specs.Words.{word_at, bits_at, byte_at, pack, digit, digit_at}
 use Rattle.formats.specs.Models.{two, ends_from, tag_bytes, field_by, field_at, label_of, outcome, read_tag}
 use Rattle.formats.proofs.Readable.{no_fault}
-use Rattle.formats.proofs.Bits.{bit_pack, eight}
+use Rattle.formats.proofs.Bits.{bit_pack}
 use Rattle.formats.proofs.Below.{all_from}
-use Rattle.formats.proofs.Chains.{flat, flat_more, flat_all, flat_at, length_ends, ends_at, length_words, chain_fit, chain_depths, chain_low, chain_rises, chain_shallow, chain_field}
+use Rattle.formats.proofs.Chains.{flat, flat_more, flat_all, flat_at, length_ends, ends_at, length_words, chain_fit, chain_depths, chain_rises, chain_shallow, chain_field}
 
 -- the bytes of a number and a label, which tag_bytes opens to
 abbrev pub tag_parts : ℕ → Label → List ℕ

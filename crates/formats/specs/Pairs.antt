@@ -1,5 +1,5 @@
 -- Two labels: whether they can be of one tree, and how they stand to each other.
-use Rattle.std.specs.Prelude.{ℕ, zero, suc, ◌+◌, ◌-◌, ◌*◌, Bool, true, false, cond, not, ◌&&◌, ◌||◌, List, [], ◌∷◌, length, take, Some, None, Option, ◌==◌, nat_lt}
+use Rattle.std.specs.Prelude.{ℕ, zero, suc, ◌+◌, ◌-◌, ◌*◌, Bool, true, false, cond, not, ◌&&◌, ◌||◌, [], ◌∷◌, length, take, Some, None, Option, ◌==◌, nat_lt}
 use Rattle.std.proofs.Math.IntN.{sub_ℕ}
 use Rattle.formats.specs.declared.answers.Difference.{Difference}
 use Rattle.formats.specs.declared.answers.Difference.TheVariants.{Same, FirstEnded, SecondEnded, At}

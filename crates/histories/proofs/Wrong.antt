@@ -1,5 +1,5 @@
 -- The wrong racks, each with the calls at which it breaks a promise, on the small tree; and the example of the true one.
-use Rattle.std.proofs.Common.{◌≡◌, ℕ, suc, ◌+◌, ◌*◌, ◌≤◌, true, false, cond, leb, List, [], ◌∷◌, length, Some, None, Option, sym, refl, ap, ◌∙◌, subst, inl, arith}
+use Rattle.std.proofs.Common.{◌≡◌, ℕ, suc, ◌+◌, ◌*◌, ◌≤◌, true, cond, leb, List, [], ◌∷◌, length, Some, None, Option, sym, refl, ap, ◌∙◌, subst, inl, arith}
 use Rattle.std.proofs.lemmas.Bool.{le-leb, cond-true, false≢true}
 use Rattle.trees.specs.Above.{AtOrAbove, here, up, depth_of}
 use Rattle.trees.specs.Deepest.{Deepest}

@@ -1,5 +1,5 @@
 -- The cover of two labels is the label of the deepest node at or above both, and their relation is that of the nodes.
-use Rattle.std.proofs.Common.{◌≡◌, ℕ, ◌+◌, ◌-◌, ◌<◌, ◌≤◌, true, ◌⊎◌, List, [], ◌∷◌, ◌++◌, Some, Option, sym, refl, ap, ◌∙◌, ⊎_elim, arith}
+use Rattle.std.proofs.Common.{◌≡◌, ℕ, ◌<◌, ◌≤◌, true, List, [], ◌∷◌, ◌++◌, Some, Option, sym, refl, ap, ◌∙◌, ⊎_elim, arith}
 use lib.IntN.{sub_ℕ}
 use Rattle.std.proofs.lemmas.Bool.{cases_order}
 use Rattle.trees.specs.Tree.{Tree}
@@ -14,7 +14,7 @@ use Rattle.codes.specs.Coding.{Lawful}
 use Rattle.formats.specs.declared.answers.Relation.{Relation}
 use Rattle.formats.specs.declared.answers.Relation.TheVariants.{Same, FirstAbove, SecondAbove, Apart}
 use Rattle.formats.specs.Label.{Field, path, Label}
-use Rattle.formats.specs.Pairs.{cover, fields_of, relation, last_depth, related}
+use Rattle.formats.specs.Pairs.{cover, fields_of, last_depth, related}
 use Rattle.formats.proofs.Covering.{end_last}
 use Rattle.labels.specs.Sizes.{heavy, is_light}
 use Rattle.labels.specs.Labels.{path_word, path_field, branch_field, label}

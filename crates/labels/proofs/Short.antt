@@ -1,5 +1,5 @@
 -- How many fields a label has, and how many bits under a balanced code.
-use Rattle.std.proofs.Common.{◌≡◌, ℕ, zero, suc, ◌+◌, ◌-◌, ◌*◌, ◌/◌, ◌^◌, ◌<◌, ◌≤◌, false, ◌⊎◌, List, [], ◌∷◌, ◌++◌, length, Some, Option, refl, ⊎_elim, mul-le-mul_left, pow-suc, arith, length-append, pow_pos, pow_mono, pow-add}
+use Rattle.std.proofs.Common.{◌≡◌, ℕ, zero, suc, ◌+◌, ◌*◌, ◌/◌, ◌^◌, ◌<◌, ◌≤◌, false, List, [], ◌∷◌, ◌++◌, length, Some, Option, refl, ⊎_elim, mul-le-mul_left, pow-suc, arith, length-append, pow_pos, pow_mono, pow-add}
 use Rattle.std.proofs.lemmas.Bool.{cases_lt}
 use Rattle.trees.specs.Tree.{Tree}
 use Rattle.trees.specs.Above.{depth_of}

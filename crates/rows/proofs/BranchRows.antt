@@ -1,7 +1,7 @@
 -- The turns of `branch_words`.
-use Rattle.std.proofs.Common.{◌≡◌, ℕ, zero, suc, ◌+◌, ◌-◌, ◌<◌, ◌≤◌, Bool, true, false, cond, eqb, ◌⊎◌, List, [], ◌∷◌, ◌++◌, map, length, get_or, Some, None, Option, sym, refl, ap, ◌∙◌, subst, ap₂, inl, inr, ⊎_elim, arith, length-append}
+use Rattle.std.proofs.Common.{◌≡◌, ℕ, zero, suc, ◌+◌, ◌<◌, Bool, true, List, [], ◌∷◌, ◌++◌, map, length, get_or, sym, refl, ap, ◌∙◌, subst, ⊎_elim, arith, length-append}
 use lib.Seq.{get_or-append_seam}
-use Rattle.std.proofs.lemmas.Bool.{cases_eq, cases_lt, cases_Bool, both_ways, eq-eqb, ne_eqb}
+use Rattle.std.proofs.lemmas.Bool.{cases_lt, cases_Bool, eq-eqb, ne_eqb}
 use Rattle.labels.specs.Sizes.{those, size, is_light, light_children}
 use Rattle.labels.specs.Labels.{branch_weights, branch_word, turn}
 use Rattle.labels.proofs.Weighing.{accepted}
@@ -10,9 +10,9 @@ use Rattle.labels.proofs.Sizes.{light_child}
 use Rattle.labels.proofs.Those.{those_at, those_less}
 use Rattle.codes.specs.declared.word.Word.{Word}
 use Rattle.codes.specs.Weighing.{Weights}
-use Rattle.rows.specs.Chains.{at, Rising, run, chain, Held, Same, Off, Stored}
+use Rattle.rows.specs.Chains.{at, run, chain, Held, Stored}
 use Rattle.rows.proofs.Walks.{held_same}
-use Rattle.rows.specs.Rows.{parents_in, Rooted, SizeRow, linked, LightLinks}
+use Rattle.rows.specs.Rows.{parents_in, Rooted, SizeRow, LightLinks}
 use Rattle.rows.proofs.Trees.{tree, map_same}
 
 getD_left : (xs ys : List ℕ) (i d : ℕ) → i < length xs → get_or (xs ++ ys) i d ≡ get_or xs i d

@@ -1,15 +1,15 @@
 -- The sizes and heavy children of rows are those of the labels.
-use Rattle.std.proofs.Common.{◌≡◌, ℕ, zero, suc, ◌+◌, ◌-◌, ◌<◌, ◌≤◌, Bool, true, false, cond, ◌||◌, eqb, leb, ◌⊎◌, List, [], ◌∷◌, length, get_or, Some, None, Option, sym, refl, ap, ◌∙◌, subst, ap₂, inl, inr, ⊎_elim, arith}
+use Rattle.std.proofs.Common.{◌≡◌, ℕ, zero, suc, ◌<◌, ◌≤◌, Bool, true, false, cond, ◌||◌, eqb, leb, List, length, Some, None, Option, sym, refl, ap, ◌∙◌, ⊎_elim, arith}
 use Rattle.std.proofs.lemmas.Bool.Decides.{nat_tests}
-use Rattle.std.proofs.lemmas.Bool.{cases_eq, cases_lt, cases_order, eq-eqb, ne_eqb}
+use Rattle.std.proofs.lemmas.Bool.{cases_eq, cases_lt, eq-eqb, ne_eqb}
 use Rattle.rows.proofs.Handing.{meets, tally, size_from}
 use Rattle.trees.specs.Above.{is_above}
-use Rattle.labels.specs.Sizes.{sum_to, size, heavy, those}
+use Rattle.labels.specs.Sizes.{sum_to, size, heavy}
 use Rattle.trees.proofs.Upward.{child}
 use Rattle.trees.proofs.Above.{above_none, above_some}
 use Rattle.labels.proofs.Sizes.{heavy_most, heavy_first, heavy_none, heavy_child}
 use Rattle.rows.specs.Chains.{at}
-use Rattle.rows.specs.Rows.{parents_in, Rooted, SizeRow, HeavyRow, link}
+use Rattle.rows.specs.Rows.{parents_in, Rooted, SizeRow, link}
 use Rattle.rows.proofs.Trees.{tree, parent_is}
 
 -- c is a child of v

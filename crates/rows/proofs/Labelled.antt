@@ -1,5 +1,5 @@
 -- Labels by their rows: a node whose path begins at the root, and the step up from any other.
-use Rattle.std.proofs.Common.{◌≡◌, ℕ, ◌+◌, ◌<◌, ◌≤◌, Bool, true, false, ◌≢◌, List, [], ◌∷◌, ◌++◌, length, set, Some, Option, sym, refl, ap, ◌∙◌, ⊎_elim, append_assoc, arith, length-append, get_or-set_other, get_or-set_same, below_more}
+use Rattle.std.proofs.Common.{◌≡◌, ℕ, ◌+◌, ◌<◌, ◌≤◌, Bool, true, ◌≢◌, List, [], ◌∷◌, ◌++◌, length, set, Some, Option, sym, refl, ap, ◌∙◌, ⊎_elim, append_assoc, arith, length-append, get_or-set_other, get_or-set_same, below_more}
 use Rattle.std.proofs.lemmas.Bool.{cases_Bool}
 use Rattle.trees.specs.Above.{depth_of}
 use Rattle.trees.proofs.Upward.{depth_none, depth_some, depth_small}
@@ -9,7 +9,7 @@ use Rattle.codes.specs.Coding.{Lawful}
 use Rattle.formats.specs.Label.{path, branch, Label, word_in, body_in}
 use Rattle.labels.specs.Sizes.{heavy, is_heavy, is_light}
 use Rattle.labels.specs.Paths.{top}
-use Rattle.labels.specs.Labels.{path_word, branch_word, path_field, branch_field, label}
+use Rattle.labels.specs.Labels.{path_word, branch_word, path_field, branch_field}
 use Rattle.labels.specs.Bounds.{most_label_fields, most_label_bits}
 use Rattle.labels.proofs.Sizes.{heavy_test, light_test}
 use Rattle.labels.proofs.Paths.{top_none, top_heavy, top_light, top_le}

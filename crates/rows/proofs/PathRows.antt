@@ -1,16 +1,15 @@
 -- The turns of `lights` and `path_words`.
-use Rattle.std.proofs.Common.{◌≡◌, ℕ, zero, suc, ◌+◌, ◌-◌, ◌<◌, ◌≤◌, Bool, true, false, cond, ◌⊎◌, List, [], ◌∷◌, map, length, get_or, Some, None, Option, sym, refl, ap, ◌∙◌, subst, ap₂, inl, inr, ⊎_elim, arith}
-use Rattle.std.proofs.lemmas.Bool.{cases_eq, cases_lt, cases_Bool, both_ways}
+use Rattle.std.proofs.Common.{◌≡◌, ℕ, ◌+◌, ◌-◌, ◌<◌, ◌≤◌, true, ◌⊎◌, List, map, length, Some, Option, sym, refl, ap, ◌∙◌, subst, ⊎_elim, arith}
+use Rattle.std.proofs.lemmas.Bool.{cases_eq, cases_lt, cases_Bool}
 use Rattle.labels.specs.Sizes.{heavy, is_heavy, light_size}
 use Rattle.labels.specs.Paths.{top, place, heavy_path}
 use Rattle.labels.specs.Labels.{path_weights, path_word}
 use Rattle.labels.proofs.Weighing.{accepted}
-use Rattle.trees.proofs.Upward.{child}
 use Rattle.labels.proofs.Sizes.{heavy_child, heavy_is, heavy_test, size_child}
 use Rattle.labels.proofs.Paths.{top_none, top_heavy, top_light, top_le}
 use Rattle.codes.specs.declared.word.Word.{Word}
 use Rattle.codes.specs.Weighing.{Weights}
-use Rattle.rows.specs.Chains.{at, Rising, chain, Held, Same, Off, Stored}
+use Rattle.rows.specs.Chains.{at, chain, Held, Stored}
 use Rattle.rows.proofs.Walks.{held_same}
 use Rattle.rows.specs.Rows.{parents_in, Rooted, SizeRow, HeavyRow, LightRow}
 use Rattle.rows.proofs.Trees.{tree, parent_is, map_same, on_path, top_top, at_place, heavy_none_at, heavy_some_at, heavy_up, chain_path}

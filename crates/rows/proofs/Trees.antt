@@ -1,15 +1,15 @@
 -- The tree that a row of parents is, and what stands on a path.
-use Rattle.std.proofs.Common.{◌≡◌, ℕ, zero, suc, ◌+◌, ◌-◌, ◌<◌, ◌≤◌, Bool, true, false, cond, eqb, ltb, ◌⊎◌, List, [], ◌∷◌, map, length, get_or, Some, None, Option, sym, refl, ap, ◌∙◌, subst, ap₂, inl, inr, ⊎_elim, arith}
-use Rattle.std.proofs.lemmas.Bool.{cases_eq, cases_lt, cases_Bool, eq-eqb, ne_eqb, lt-ltb, le-ltb}
+use Rattle.std.proofs.Common.{◌≡◌, ℕ, zero, suc, ◌+◌, ◌<◌, ◌≤◌, List, [], ◌∷◌, map, length, Some, None, Option, sym, refl, ap, ◌∙◌, ap₂, inl, inr, ⊎_elim, arith}
+use Rattle.std.proofs.lemmas.Bool.{cases_eq, eq-eqb, ne_eqb, lt-ltb, le-ltb}
 use Rattle.trees.specs.Tree.{Tree}
 use Rattle.trees.specs.Above.{opt}
-use Rattle.labels.specs.Sizes.{heavy, light_size}
+use Rattle.labels.specs.Sizes.{heavy}
 use Rattle.labels.specs.Paths.{top, place, path_from, heavy_path}
 use Rattle.trees.proofs.Upward.{child}
 use Rattle.labels.proofs.Sizes.{heavy_child, heavy_test}
 use Rattle.labels.proofs.Paths.{top_none, top_heavy, top_light, cases_in, placed, place_less}
 use Rattle.rows.specs.Chains.{at, Rising, run, chain}
-use Rattle.rows.specs.Rows.{parents_in, Rooted, link, HeavyRow}
+use Rattle.rows.specs.Rows.{parents_in, Rooted, HeavyRow}
 
 pub parent_is : (up : List ℕ) (v : ℕ) → 1 ≤ v → v < length up → parents_in up v ≡ Some (at up v)
 unfolding parents_in

@@ -1,14 +1,14 @@
 -- What a field shows of a tag is the field of its label.
 use Rattle.std.proofs.Common.{◌≡◌, ℕ, ◌+◌, ◌-◌, ◌/◌, ◌%◌, ◌<◌, ◌≤◌, Bool, true, false, cond, ◌&&◌, eqb, ltb, leb, List, length, Some, None, Option, sym, refl, ap, ◌∙◌, ⊎_elim, arith}
 use Rattle.std.proofs.lemmas.Bool.{and_from, and_left, cases_lt, lt-ltb, le-ltb, le-leb, cond-true, cond-false}
-use Rattle.formats.specs.Label.{Word, path, branch, Field as Said}
+use Rattle.formats.specs.Label.{path, branch, Field as Said}
 use Rattle.formats.specs.Faults.{tag_fault}
 use Rattle.formats.specs.Layout.{count_of, head_of, begin_at, end_at, depth_at}
-use Rattle.formats.specs.Models.{field_by, field_at, label_of}
+use Rattle.formats.specs.Models.{field_at, label_of}
 use Rattle.formats.specs.Pairs.{nth_field}
 use Rattle.formats.specs.Words.{bits_at, word_at}
-use Rattle.formats.proofs.Readable.{Readable, is_readable}
-use Rattle.formats.proofs.Spans.{Span, span}
+use Rattle.formats.proofs.Readable.{is_readable}
+use Rattle.formats.proofs.Spans.{span}
 use Rattle.formats.proofs.Bits.{word_touched}
 use Rattle.formats.proofs.Answering.{nth_label}
 use Rattle.tags.specs.declared.field.Field.{Field}

@@ -1,8 +1,7 @@
 -- What is answered about numbers, once the verdict is known and which of them are nodes.
-use Rattle.std.proofs.Common.{◌≡◌, ℕ, ◌<◌, ◌≤◌, Bool, true, false, cond, ltb, List, [], ◌∷◌, Some, None, Ok, Err, Option, Result, sym, refl, ap, ◌∙◌, arith}
+use Rattle.std.proofs.Common.{◌≡◌, ℕ, ◌<◌, ◌≤◌, Bool, true, false, cond, ltb, List, ◌∷◌, Some, None, Ok, Err, Result, sym, refl, ap, arith}
 use Rattle.std.proofs.lemmas.Bool.{ltb-true, lt-ltb, le-ltb}
 use Rattle.trees.specs.declared.host.HostFault.{HostFault}
-use Rattle.trees.specs.declared.climb.ClimbRefusal.{ClimbRefusal}
 use Rattle.trees.specs.declared.climb.ClimbRefusal.TheVariants.{NoSuchNode}
 use Rattle.trees.specs.Climbing.{first_missing, unless_missing, about}
 

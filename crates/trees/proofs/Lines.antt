@@ -1,5 +1,5 @@
 -- One turn of the two searches through the levels of a list.
-use Rattle.std.proofs.Common.{◌≡◌, ℕ, zero, suc, ◌+◌, ◌-◌, ◌<◌, ◌≤◌, true, false, cond, eqb, List, get_or, Some, None, sym, ap, ◌∙◌, subst, suc-add, zero-add, arith}
+use Rattle.std.proofs.Common.{◌≡◌, ℕ, zero, suc, ◌+◌, ◌-◌, ◌≤◌, true, false, cond, eqb, List, get_or, Some, None, sym, ap, ◌∙◌, subst, suc-add, zero-add, arith}
 use Rattle.trees.specs.Indented.{misplaced, or_else, first_misplaced, nearest}
 
 -- The search for a misplaced line: none so far, and then line v.

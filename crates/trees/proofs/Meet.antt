@@ -1,9 +1,9 @@
 -- The deepest node at or above some nodes.
-use Rattle.std.proofs.Common.{◌≡◌, ℕ, ◌<◌, ◌≤◌, Bool, true, false, cond, List, [], ◌∷◌, Some, None, Option, sym, refl, ap, ◌∙◌, ⊎_elim, arith}
+use Rattle.std.proofs.Common.{◌≡◌, ℕ, ◌<◌, Bool, true, false, cond, List, [], ◌∷◌, Some, None, Option, sym, refl, ap, ◌∙◌, ⊎_elim, arith}
 use Rattle.std.proofs.lemmas.Bool.{both_ways}
 use Rattle.trees.specs.Tree.{Tree}
 use Rattle.trees.specs.Above.{AtOrAbove, here, up, is_above}
-use Rattle.trees.specs.Deepest.{AboveAll, Deepest, meet_of, meet_all}
+use Rattle.trees.specs.Deepest.{Deepest, meet_of, meet_all}
 use Rattle.trees.specs.Climbing.{first_missing}
 use Rattle.trees.proofs.Answering.{split}
 use Rattle.trees.proofs.Upward.{child, upward, orphan, rise_none, rise_some}

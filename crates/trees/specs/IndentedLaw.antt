@@ -1,6 +1,6 @@
 -- The proof that a host of indented lines obeys the law of hosts. Nothing here need be believed.
-use Rattle.std.specs.Prelude.{◌≡◌, ℕ, zero, suc, ◌+◌, ◌-◌, ◌<◌, ◌≤◌, Bool, true, false, cond, ◌⊎◌, List, length, Some, None, Ok, Err, Option, Result, ◌==◌, nat_lt, slice_index, slice_index_or, refl}
-use Rattle.std.proofs.Common.{sym, ap, subst, ◌∙◌, ⊎_elim, arith}
+use Rattle.std.specs.Prelude.{◌≡◌, ℕ, zero, suc, ◌+◌, ◌-◌, ◌<◌, ◌≤◌, Bool, true, false, cond, List, length, Some, None, Ok, Err, Option, ◌==◌, nat_lt, slice_index, slice_index_or, refl}
+use Rattle.std.proofs.Common.{ap, subst, ◌∙◌, ⊎_elim, arith}
 use Rattle.std.proofs.lemmas.Bool.{eqb-true, eqb-false, ltb-false, or_parts, cases_lt, cases_eq, eq-eqb, ne_eqb}
 use Rattle.trees.specs.declared.host.HostFault.{HostFault}
 use Rattle.trees.specs.Tree.{Tree, most_nodes}

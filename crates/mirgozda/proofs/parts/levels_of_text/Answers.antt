@@ -1,6 +1,6 @@
-use Rattle.std.proofs.Common.{◌≡◌, ◌+◌, ◌-◌, [], ◌∷◌, ◌++◌, length, Some, None, vec_items, sym, ap, ◌∙◌, arith}
+use Rattle.std.proofs.Common.{◌≡◌, ◌+◌, ◌-◌, length, Some, None, vec_items, sym, ap, ◌∙◌, arith}
 use Rattle.texts.specs.Lines.{without_return}
-use Rattle.texts.specs.PartsList.{levels_of, list_levels}
+use Rattle.texts.specs.PartsList.{levels_of}
 use Rattle.mirgozda.proofs.Levels.{after, after_all, after_none, after_one, skipped, taken}
 use Rattle.mirgozda.proofs.parts.levels_of_text.Goals as goal
 

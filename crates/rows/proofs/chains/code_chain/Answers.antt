@@ -1,4 +1,4 @@
-use Rattle.std.proofs.Common.{◌≡◌, ℕ, List, map, length, sym, refl, ap, ◌∙◌, subst, rules}
+use Rattle.std.proofs.Common.{ℕ, List, length, sym, ap, ◌∙◌, subst}
 use Rattle.codes.specs.Weighing.{Weights}
 use Rattle.rows.specs.Chains.{at, chain, Stored}
 use Rattle.rows.proofs.Walks.{length-map}

@@ -1,4 +1,4 @@
-use Rattle.std.proofs.Common.{ℕ, ◌+◌, arith, rules}
+use Rattle.std.proofs.Common.{arith, rules}
 use Rattle.rows.proofs.Runs.{gather_on, gather_end}
 use Rattle.rows.proofs.chains.list_weights.Goals as goal
 

@@ -1,4 +1,4 @@
-use Rattle.std.proofs.Common.{◌≡◌, ◌<◌, length, is_ok, sym, refl, ap, ◌∙◌, arith, rules}
+use Rattle.std.proofs.Common.{◌<◌, length, is_ok, sym, refl, ap, ◌∙◌, arith}
 use Rattle.codes.proofs.Accepting.{accepts_yes, next_more}
 use Rattle.codes.proofs.Answering.{answer_yes, answer_moved, own_word}
 use Rattle.rows.proofs.Walks.{walk_in, walk_on, walk_end}

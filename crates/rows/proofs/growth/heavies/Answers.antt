@@ -1,4 +1,4 @@
-use Rattle.std.proofs.Common.{◌≡◌, length, get_or, arith, rules}
+use Rattle.std.proofs.Common.{◌≡◌, length, get_or, arith}
 use Rattle.rows.proofs.Grown.{heavy_is_link}
 use Rattle.rows.proofs.growth.heavies.Goals as goal
 

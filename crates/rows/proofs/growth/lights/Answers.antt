@@ -1,4 +1,4 @@
-use Rattle.std.proofs.Common.{◌≡◌, ℕ, ◌<◌, ◌≤◌, ◌≢◌, length, sym, refl, ap, ◌∙◌, arith, get_or-set_other, get_or-set_same, rules, below_more}
+use Rattle.std.proofs.Common.{◌≡◌, ◌<◌, ◌≢◌, length, ◌∙◌, arith, get_or-set_other, get_or-set_same, below_more}
 use Rattle.labels.specs.Sizes.{light_size}
 use Rattle.rows.specs.Rows.{parents_in}
 use Rattle.rows.proofs.Trees.{heavy_up}

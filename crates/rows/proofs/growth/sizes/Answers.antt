@@ -1,4 +1,4 @@
-use Rattle.std.proofs.Common.{◌≡◌, ℕ, ◌+◌, ◌-◌, ◌<◌, ◌≤◌, length, get_or, sym, ap, ◌∙◌, arith, rules}
+use Rattle.std.proofs.Common.{◌≡◌, ◌-◌, get_or, sym, ap, ◌∙◌, arith, rules}
 use Rattle.rows.proofs.Grown.{size_is}
 use Rattle.rows.proofs.Handing.{size_from, from_all, turn, turn_fits}
 use Rattle.rows.proofs.growth.sizes.Goals as goal

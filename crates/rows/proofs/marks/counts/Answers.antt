@@ -1,10 +1,10 @@
-use Rattle.std.proofs.Common.{◌≡◌, ℕ, ◌+◌, ◌<◌, ◌≤◌, List, length, set, sym, ap, ◌∙◌, subst, arith, rules}
+use Rattle.std.proofs.Common.{◌≡◌, ℕ, ◌+◌, ◌<◌, List, length, sym, ◌∙◌, subst, arith}
 use Rattle.rows.specs.Chains.{at}
 use Rattle.labels.specs.Paths.{top}
 use Rattle.rows.specs.Rows.{parents_in}
 use Rattle.formats.specs.Label.{body_in}
 use Rattle.rows.specs.Rows.{row_label}
-use Rattle.rows.proofs.Labelled.{stored_more, Above, above, fields_root, bits_root, few_fields, few_bits}
+use Rattle.rows.proofs.Labelled.{stored_more, above, fields_root, bits_root, few_fields, few_bits}
 use Rattle.rows.proofs.marks.counts.Goals as goal
 use Rattle.rows.proofs.marks.counts.Goals.{then-t-eq0, else-t-eq0}
 

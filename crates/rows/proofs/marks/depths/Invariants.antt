@@ -1,4 +1,4 @@
-use Rattle.std.proofs.Common.{◌≡◌, ℕ, ◌<◌, length}
+use Rattle.std.proofs.Common.{◌≡◌, ℕ, ◌<◌}
 use Rattle.rows.specs.Chains.{at}
 use Rattle.trees.specs.Above.{depth_of}
 use Rattle.rows.specs.Rows.{parents_in}

@@ -1,4 +1,4 @@
-use Rattle.std.proofs.Common.{◌≡◌, ℕ, ◌+◌, ◌<◌, ◌≤◌, length, sym, ap, ◌∙◌, arith, length-set, rules}
+use Rattle.std.proofs.Common.{◌≡◌, ◌<◌, length, sym, ◌∙◌, arith, length-set}
 use Rattle.labels.specs.Paths.{top}
 use Rattle.rows.specs.Rows.{parents_in}
 use Rattle.rows.proofs.Labelled.{stored_more, top_root, top_on, top_new}

@@ -1,4 +1,4 @@
-use Rattle.std.proofs.Common.{◌≡◌, ℕ, ◌<◌, ◌≤◌, length, is_some, Some, sym, ap, ◌∙◌, arith, rules}
+use Rattle.std.proofs.Common.{◌≡◌, ℕ, ◌<◌, ◌≤◌, length, is_some, Some, sym, ap, ◌∙◌, arith}
 use Rattle.rows.specs.Chains.{at}
 use Rattle.rows.proofs.Bridge.{rooted, same, more_stored}
 use Rattle.rows.proofs.parents.gather.Goals as goal

@@ -1,7 +1,6 @@
-use Rattle.std.proofs.Common.{◌≡◌, ℕ, ◌+◌, ◌<◌, ◌≤◌, length, sym, ap, ◌∙◌, arith, rules}
+use Rattle.std.proofs.Common.{◌+◌, ◌<◌, length, arith}
 use Rattle.trees.proofs.Upward.{child}
 use Rattle.labels.proofs.Sizes.{light_child}
-use Rattle.rows.specs.Rows.{parents_in}
 use Rattle.rows.proofs.Trees.{tree}
 use Rattle.rows.proofs.PathRows.{moved}
 use Rattle.rows.proofs.BranchRows.{BranchTo, branch_fine, branch_skip, branch_turn}

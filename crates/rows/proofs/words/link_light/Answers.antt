@@ -1,4 +1,4 @@
-use Rattle.std.proofs.Common.{◌≡◌, ℕ, ◌+◌, ◌-◌, ◌<◌, ◌≤◌, length, get_or, sym, ap, ◌∙◌, ⊎_elim, arith, rules}
+use Rattle.std.proofs.Common.{◌≡◌, ◌-◌, ⊎_elim, arith, rules}
 use Rattle.rows.proofs.LinkRows.{link_start, link_skip, link_turn, link_end}
 use Rattle.rows.proofs.words.link_light.Goals as goal
 

@@ -1,4 +1,4 @@
-use Rattle.std.proofs.Common.{ℕ, ◌<◌, ◌≤◌, length}
+use Rattle.std.proofs.Common.{◌≤◌}
 use Rattle.rows.proofs.LinkRows.{LinkFrom}
 use Rattle.rows.proofs.words.link_light.Given as goal
 

@@ -1,7 +1,6 @@
-use Rattle.std.proofs.Common.{◌≡◌, ℕ, ◌+◌, ◌<◌, ◌≤◌, ◌⊎◌, length, sym, ap, ◌∙◌, inl, inr, arith, rules}
+use Rattle.std.proofs.Common.{◌≡◌, ◌+◌, ◌<◌, ◌≤◌, ◌⊎◌, length, inl, inr, arith}
 use Rattle.labels.proofs.Paths.{top_le}
 use Rattle.rows.specs.Chains.{at}
-use Rattle.rows.specs.Rows.{parents_in}
 use Rattle.rows.proofs.Trees.{tree, heavy_rising}
 use Rattle.rows.proofs.PathRows.{PathTo, path_fine, begins, path_skip, path_turn, moved}
 use Rattle.rows.proofs.words.path_words.Goals as goal

@@ -1,8 +1,8 @@
-use Rattle.std.proofs.Common.{◌≡◌, ℕ, ◌+◌, ◌-◌, ◌*◌, ◌/◌, ◌%◌, ◌<◌, ◌≤◌, List, ◌++◌, length, take, drop, None, Ok, sym, refl, ap, ◌∙◌, subst, arith}
+use Rattle.std.proofs.Common.{◌≡◌, ◌+◌, ◌-◌, ◌*◌, ◌/◌, ◌%◌, ◌<◌, ◌≤◌, ◌++◌, length, take, drop, None, Ok, sym, ap, ◌∙◌, subst, arith}
 use Rattle.formats.specs.Faults.{tag_fault}
-use Rattle.formats.specs.Layout.{count_of, end_at}
+use Rattle.formats.specs.Layout.{count_of}
 use Rattle.formats.specs.Theorems.{Bytes, Shortened}
-use Rattle.formats.proofs.Readable.{Readable, is_readable}
+use Rattle.formats.proofs.Readable.{is_readable}
 use Rattle.formats.proofs.Spans.{Span, span}
 use Rattle.formats.proofs.Cutting.{cut_with, cut_size}
 use Rattle.formats.proofs.CutTags.{room_answer, room_output, done_answer, done_output, done_reads}

@@ -1,4 +1,4 @@
-use Rattle.std.proofs.Common.{◌≡◌, ◌+◌, ◌-◌, get_or, ap, ◌∙◌, arith}
+use Rattle.std.proofs.Common.{◌+◌, ◌-◌, get_or, ap, ◌∙◌}
 use Rattle.formats.proofs.Cutting.{cleared}
 use Rattle.tags.proofs.Puts.{wrote_cut}
 use Rattle.tags.proofs.cut.write_cut.Goals as goal

@@ -1,4 +1,4 @@
-use Rattle.std.proofs.Common.{◌≡◌, max, leb, ◌∙◌}
+use Rattle.std.proofs.Common.{max, leb, ◌∙◌}
 use Rattle.formats.proofs.Places.{both_past}
 use Rattle.tags.proofs.queries.both_ended.Goals as goal
 

@@ -1,4 +1,4 @@
-use Rattle.std.proofs.Common.{◌≡◌, ◌||◌, sym, refl, ap, ◌∙◌, arith}
+use Rattle.std.proofs.Common.{◌||◌, sym, refl, ap, ◌∙◌, arith}
 use Rattle.formats.specs.Models.{field_at}
 use Rattle.formats.specs.Pairs.{misplaced}
 use Rattle.formats.proofs.Places.{clash_past, clash_here}

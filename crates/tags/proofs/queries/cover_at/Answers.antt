@@ -1,4 +1,4 @@
-use Rattle.std.proofs.Common.{◌≡◌, ◌+◌, cond, ap, ◌∙◌, arith}
+use Rattle.std.proofs.Common.{◌+◌, cond, ap, ◌∙◌, arith}
 use Rattle.formats.specs.declared.answers.Side.TheVariants.{First, Second}
 use Rattle.formats.specs.declared.answers.Part.{Part}
 use Rattle.formats.proofs.Places.{cover_first, cover_second, cover_branch, cover_path}

@@ -4,7 +4,7 @@ use Rattle.formats.specs.Layout.{tree_of}
 use Rattle.formats.specs.Models.{label_of}
 use Rattle.formats.specs.Pairs.{clash}
 use Rattle.formats.proofs.Walks.{ended_clash}
-use Rattle.formats.proofs.Answering.{Paired, fault_clash, fault_none}
+use Rattle.formats.proofs.Answering.{fault_clash, fault_none}
 use Rattle.tags.proofs.queries.meet.Goals as goal
 use Rattle.tags.proofs.queries.meet.Goals.{After-clashes}
 

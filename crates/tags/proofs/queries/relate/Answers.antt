@@ -1,4 +1,4 @@
-use Rattle.std.proofs.Common.{◌≡◌, ◌+◌, ◌-◌, ◌*◌, ◌/◌, ap, ◌∙◌, arith}
+use Rattle.std.proofs.Common.{◌+◌, ◌-◌, ◌*◌, ◌/◌, ap, ◌∙◌, arith}
 use lib.IntN.{sub_ℕ}
 use Rattle.formats.specs.Layout.{depth_at}
 use Rattle.formats.specs.Pairs.{related, relation_by}

@@ -1,4 +1,4 @@
-use Rattle.std.proofs.Common.{◌≡◌, min, leb, ◌∙◌}
+use Rattle.std.proofs.Common.{min, leb, ◌∙◌}
 use Rattle.formats.proofs.Places.{begins_shorter}
 use Rattle.tags.proofs.words.one_begins.Goals as goal
 

@@ -1,4 +1,4 @@
-use Rattle.std.proofs.Common.{◌≡◌, max, leb, ◌∙◌}
+use Rattle.std.proofs.Common.{max, leb, ◌∙◌}
 use Rattle.formats.proofs.Places.{same_longer}
 use Rattle.tags.proofs.words.same_word.Goals as goal
 

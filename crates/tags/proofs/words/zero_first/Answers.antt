@@ -1,4 +1,4 @@
-use Rattle.std.proofs.Common.{◌≡◌, ◌∙◌, arith}
+use Rattle.std.proofs.Common.{arith}
 use Rattle.formats.proofs.Places.{zero_none, zero_some}
 use Rattle.tags.proofs.words.zero_first.Goals as goal
 

@@ -1,4 +1,4 @@
-use Rattle.std.proofs.Common.{◌≡◌, ℕ, List, ◌∷◌, None, Ok, sym, ap, ◌∙◌, subst}
+use Rattle.std.proofs.Common.{◌≡◌, ℕ, ◌∷◌, None, Ok, sym, ap, ◌∙◌, subst}
 use Rattle.trees.specs.declared.climb.Assembly.{Assembly}
 use Rattle.trees.specs.Above.{depth_of}
 use Rattle.trees.specs.Deepest.{Deepest, meet_all}

@@ -1,7 +1,7 @@
-use Rattle.std.proofs.Common.{◌≡◌, ◌+◌, get_or, drop, sym, ap, ◌∙◌}
+use Rattle.std.proofs.Common.{◌+◌, get_or, drop, sym, ap, ◌∙◌}
 use Rattle.std.proofs.lemmas.List.{at_drop_more, drop_all}
 use Rattle.trees.specs.Climbing.{first_missing}
-use Rattle.trees.specs.Deepest.{meet_of, meet_all}
+use Rattle.trees.specs.Deepest.{meet_all}
 use Rattle.trees.proofs.Answering.{split}
 use Rattle.trees.proofs.climb.meet_list.Goals as goal
 

@@ -1,4 +1,4 @@
-use Rattle.std.proofs.Common.{◌≡◌, is_some, sym, ap, ◌∙◌, arith}
+use Rattle.std.proofs.Common.{is_some, sym, ap, ◌∙◌}
 use Rattle.trees.proofs.Upward.{child}
 use Rattle.trees.proofs.climb.parent_of.Goals as goal
 

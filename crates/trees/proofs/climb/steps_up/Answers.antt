@@ -1,4 +1,4 @@
-use Rattle.std.proofs.Common.{◌≡◌, ◌+◌, ap, ◌∙◌, arith}
+use Rattle.std.proofs.Common.{◌≡◌, ap, ◌∙◌, arith}
 use Rattle.trees.specs.Above.{depth_of}
 use Rattle.trees.proofs.Upward.{depth_none, depth_some, depth_small}
 use Rattle.trees.proofs.climb.steps_up.Goals as goal

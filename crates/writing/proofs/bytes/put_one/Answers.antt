@@ -1,4 +1,3 @@
-use Rattle.std.proofs.Common.{rules}
 use Rattle.writing.proofs.Puts.{wrote_set}
 use Rattle.writing.proofs.bytes.put_one.Goals as goal
 

@@ -1,4 +1,4 @@
-use Rattle.std.proofs.Common.{arith, rules}
+use Rattle.std.proofs.Common.{arith}
 use Rattle.writing.proofs.Puts.{then}
 use Rattle.writing.proofs.bytes.put_two.Goals as goal
 

@@ -1,4 +1,4 @@
-use Rattle.std.proofs.Common.{◌≡◌, ℕ, length, ap, ◌∙◌, arith, rules}
+use Rattle.std.proofs.Common.{◌≡◌, length, ap, ◌∙◌, arith}
 use Rattle.writing.specs.Sheets.{row_offset}
 use Rattle.writing.proofs.Sheeted.{offset_zero, offset_more, sheet_length}
 use Rattle.writing.proofs.sheeting.measure.Goals as goal

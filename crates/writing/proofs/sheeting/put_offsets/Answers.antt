@@ -1,4 +1,4 @@
-use Rattle.std.proofs.Common.{◌≡◌, ℕ, ◌+◌, ◌*◌, ◌≤◌, List, length, sym, refl, ap, ◌∙◌, subst, arith, rules}
+use Rattle.std.proofs.Common.{◌≡◌, ℕ, ◌+◌, ◌*◌, List, length, sym, refl, ◌∙◌, subst, arith}
 use Rattle.writing.specs.Writes.{Wrote}
 use Rattle.writing.specs.Sheets.{offsets_to}
 use Rattle.writing.proofs.Puts.{wrote_nil}

@@ -1,4 +1,4 @@
-use Rattle.std.proofs.Common.{◌≡◌, ℕ, ◌+◌, ◌*◌, ◌≤◌, List, ◌++◌, length, sym, ◌∙◌, subst, arith, length-append, rules}
+use Rattle.std.proofs.Common.{ℕ, ◌+◌, List, ◌++◌, length, sym, subst, arith, length-append}
 use Rattle.formats.specs.Models.{two}
 use Rattle.writing.specs.Writes.{Wrote}
 use Rattle.writing.specs.Sheets.{offsets_to}

@@ -1,4 +1,4 @@
-use Rattle.std.proofs.Common.{◌≡◌, ℕ, ◌+◌, ◌*◌, ◌≤◌, List, length, sym, refl, ◌∙◌, subst, arith, rules}
+use Rattle.std.proofs.Common.{◌≡◌, ℕ, ◌+◌, ◌*◌, List, length, sym, refl, ◌∙◌, subst, arith}
 use Rattle.writing.specs.Writes.{Wrote}
 use Rattle.writing.specs.Tags.{row_tag}
 use Rattle.writing.specs.Sheets.{tags_to}

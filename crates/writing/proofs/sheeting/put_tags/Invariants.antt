@@ -1,4 +1,4 @@
-use Rattle.std.proofs.Common.{◌≡◌, ℕ, ◌+◌, ◌*◌, ◌≤◌, length}
+use Rattle.std.proofs.Common.{◌≡◌, ◌+◌, ◌*◌, ◌≤◌, length}
 use Rattle.formats.specs.Limits.{most_tag_bytes}
 use Rattle.writing.specs.Writes.{Wrote}
 use Rattle.writing.specs.Sheets.{row_offset, tags_to}

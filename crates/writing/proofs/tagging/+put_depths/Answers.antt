@@ -1,16 +1,10 @@
-use Rattle.std.proofs.Common.{◌≡◌, ℕ, ◌+◌, ◌-◌, ◌*◌, ◌<◌, ◌≤◌, List, length, get_or, sym, refl, ap, ◌∙◌, subst, arith, length-append, rules}
-use Rattle.std.specs.List.{flat_map}
-use Rattle.formats.specs.Models.{two}
+use Rattle.std.proofs.Common.{ℕ, List, get_or, sym, subst, arith}
 use Rattle.writing.specs.Writes.{Wrote}
-use Rattle.writing.proofs.Puts.{then, getD_past_write, wrote_part}
-use Rattle.codes.specs.Words.{digits}
-use Rattle.writing.specs.Bits.{unpacked}
-use Rattle.writing.proofs.Packing.{length_unpacked, length_digits, over_clear, packs, zero_bits}
-use Rattle.formats.specs.Label.{depths_in, body_in}
+use Rattle.writing.proofs.Puts.{then}
+use Rattle.formats.specs.Label.{depths_in}
 use Rattle.rows.specs.Rows.{row_label}
-use Rattle.writing.specs.Tags.{ends_at, body_bytes, row_tag}
 use Rattle.formats.proofs.Written.{length_two}
-use Rattle.writing.proofs.Tagged.{t_in, p_in, fields_zero, bits_zero, path_32, branch_32, bits_up, fields_up, ends_root, ends_more, depths_root, depths_more, body_root, body_more, length_ends, twice_depths}
+use Rattle.writing.proofs.Tagged.{t_in, p_in, fields_zero, fields_up, depths_root, depths_more, twice_depths}
 use Rattle.writing.proofs.tagging.+put_depths.Goals as goal
 
 pub put_two-requires : goal.put_two-requires

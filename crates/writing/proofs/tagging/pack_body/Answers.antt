@@ -1,4 +1,4 @@
-use Rattle.std.proofs.Common.{◌≡◌, ◌≤◌, arith, rules}
+use Rattle.std.proofs.Common.{arith, rules}
 use Rattle.formats.specs.Label.{body_in}
 use Rattle.rows.specs.Rows.{row_label}
 use Rattle.rows.proofs.Labelled.{few_bits}

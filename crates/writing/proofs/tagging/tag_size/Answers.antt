@@ -1,4 +1,4 @@
-use Rattle.std.proofs.Common.{◌≡◌, arith, rules}
+use Rattle.std.proofs.Common.{arith}
 use Rattle.writing.proofs.Tagged.{tag_length, tag_small}
 use Rattle.writing.proofs.tagging.tag_size.Goals as goal
 

@@ -1,4 +1,4 @@
-use Rattle.std.proofs.Common.{◌≡◌, ◌/◌, sym, ap, ◌∙◌}
+use Rattle.std.proofs.Common.{◌/◌, sym, ap, ◌∙◌}
 use Rattle.formats.specs.Layout.{depth_at}
 use Rattle.formats.proofs.Answering.{depth_whole}
 use Rattle.tags.proofs.tag.Tag.last_depth.Goals as goal
