@@ -1,7 +1,7 @@
 -- The answers of look-up, test by test.
-use Rattle.std.proofs.Common.{◌≡◌, ℕ, ◌+◌, ◌*◌, ◌<◌, ◌≤◌, Bool, true, false, cond, ◌||◌, ltb, leb, List, length, Ok, Err, sym, refl, ap, ◌∙◌, arith}
+use Rattle.std.proofs.Common.{◌≡◌, ℕ, ◌+◌, ◌<◌, ◌≤◌, Bool, true, false, ◌||◌, ltb, List, length, Ok, Err, sym, refl}
 use Rattle.std.specs.List.{between}
-use Rattle.std.proofs.lemmas.Bool.{or_parts, ltb-false, leb-false, lt-ltb, le-ltb, le-leb, lt-leb}
+use Rattle.std.proofs.lemmas.Bool.{or_parts, ltb-false, le-ltb, le-leb, lt-leb}
 use Rattle.sheets.specs.declared.look.LookUpRefusal.TheVariants.{SheetTooShort, NoSuchNode, BadOffsets}
 use Rattle.sheets.specs.LookingUp.{nodes_of, header_of, offset_at, look_up_fault, look_up_answer}
 

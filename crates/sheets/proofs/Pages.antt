@@ -1,5 +1,5 @@
 -- Where each offset and each tag stands on a sheet.
-use Rattle.std.proofs.Common.{◌≡◌, ℕ, zero, suc, ◌+◌, ◌-◌, ◌*◌, ◌/◌, ◌%◌, ◌<◌, ◌≤◌, List, [], ◌∷◌, ◌++◌, map, length, get_or, take, drop, Ok, Option, sym, refl, ap, ◌∙◌, ap₂, append_assoc, add-one, arith, length-append}
+use Rattle.std.proofs.Common.{◌≡◌, ℕ, zero, suc, ◌+◌, ◌-◌, ◌*◌, ◌<◌, ◌≤◌, List, [], ◌∷◌, ◌++◌, map, length, get_or, take, Ok, Option, sym, refl, ap, ◌∙◌, ap₂, append_assoc, add-one, arith, length-append}
 use Rattle.std.specs.List.{between, range_with_len, flat_map}
 use Rattle.std.proofs.lemmas.List.FromFn.{length-map-range_with_len, get_or-map-range_with_len}
 use Rattle.std.proofs.lemmas.List.{take_at, drop_at, get_or_append_left, get_or-append_right}
@@ -9,7 +9,7 @@ use Rattle.labels.specs.Sizes.{sum_to}
 use Rattle.labels.specs.Sheet.{four, tag, offset, sheet}
 use Rattle.writing.proofs.Tagged.{joined_append}
 use Rattle.writing.proofs.Sheeted.{joined_count}
-use Rattle.sheets.specs.LookingUp.{nodes_of, header_of, offset_at, look_up_answer}
+use Rattle.sheets.specs.LookingUp.{nodes_of, offset_at, look_up_answer}
 use Rattle.sheets.proofs.Looked.{is_long, is_placed, found}
 
 -- four bytes hold a number below 2 ^ 32, and no more is asked of the last

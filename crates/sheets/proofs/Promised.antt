@@ -1,19 +1,18 @@
 -- The promises, of the sheet that is pressed.
-use Rattle.std.proofs.Common.{◌≡◌, ℕ, ◌%◌, ◌<◌, ◌≤◌, Bool, true, false, cond, ltb, List, ◌++◌, length, take, drop, IfOk, None, Ok, Err, Option, Result, sym, refl, ap, ◌∙◌, subst, arith}
+use Rattle.std.proofs.Common.{◌≡◌, ℕ, ◌<◌, ◌≤◌, Bool, true, false, cond, ltb, List, length, take, drop, IfOk, None, Ok, Err, Option, Result, sym, refl, ap, ◌∙◌, subst, arith}
 use Rattle.std.proofs.lemmas.List.{take_at}
 use Rattle.trees.specs.Tree.{Tree}
 use Rattle.trees.specs.declared.host.HostFault.{HostFault}
 use Rattle.codes.specs.declared.word.Word.{Word}
 use Rattle.codes.specs.Coding.{Lawful, Balanced}
-use Rattle.codes.specs.Gilbert.{gilbert_moore}
 use Rattle.codes.proofs.Shifts.{gilbert_balanced}
 use Rattle.formats.specs.Limits.{most_number}
 use Rattle.formats.specs.Layout.{count_of, tree_of}
-use Rattle.formats.specs.Models.{read_tag, label_of, outcome}
+use Rattle.formats.specs.Models.{label_of, outcome}
 use Rattle.formats.specs.Faults.{tag_fault}
-use Rattle.formats.specs.Cuts.{cut_tag, cut_fault, cut_answer, cut_output, written_over}
+use Rattle.formats.specs.Cuts.{cut_tag, cut_fault, written_over}
 use Rattle.formats.proofs.Read.{outcome_ok}
-use Rattle.formats.proofs.Readable.{Readable, is_readable}
+use Rattle.formats.proofs.Readable.{is_readable}
 use Rattle.formats.proofs.CutTags.{cut_long, cut_fine}
 use Rattle.labels.specs.Labels.{label}
 use Rattle.labels.specs.Sheet.{tag, sheet}

@@ -30,7 +30,7 @@ fn found(sheet: &[u8], v: u16) -> Result<usize, LookUpRefusal> {
 
 fn is_tag_5(sheet: &[u8]) -> bool {
     match look_up(sheet, 5) {
-        Ok(tag) => tag == &TAG_5,
+        Ok(tag) => tag == TAG_5.as_slice(),
         Err(_) => false,
     }
 }

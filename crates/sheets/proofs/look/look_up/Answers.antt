@@ -1,4 +1,4 @@
-use Rattle.std.proofs.Common.{◌≡◌, ℕ, ◌<◌, ◌≤◌, Bool, ◌||◌, ltb, List, length, Ok, Result, sym, ◌∙◌, ap₂, arith, rules}
+use Rattle.std.proofs.Common.{ℕ, Bool, ◌||◌, ltb, List, length, Ok, Result, sym, ◌∙◌, ap₂}
 use Rattle.std.proofs.lemmas.Bool.{leb-true, leb-false}
 use Rattle.std.specs.List.{between}
 use Rattle.sheets.specs.declared.look.LookUpRefusal.{LookUpRefusal}

@@ -1,4 +1,4 @@
-use Rattle.std.proofs.Common.{◌≡◌, ℕ, ◌≤◌, true, length, Ok, sym, refl, ap, ◌∙◌, arith, rules}
+use Rattle.std.proofs.Common.{◌≡◌, ℕ, ◌≤◌, true, length, Ok, sym, ap, ◌∙◌, arith}
 use Rattle.labels.specs.Sheet.{sheet}
 use Rattle.rows.specs.Rows.{parents_in}
 use Rattle.sheets.specs.Pressing.{few_enough, press_answer, press_output}

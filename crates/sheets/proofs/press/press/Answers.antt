@@ -1,4 +1,4 @@
-use Rattle.std.proofs.Common.{◌≡◌, ℕ, ◌≤◌, length, Ok, Option, sym, ap, ◌∙◌, ap₂, arith, rules}
+use Rattle.std.proofs.Common.{◌≡◌, ℕ, length, Ok, Option, sym, ap, ◌∙◌, ap₂, arith}
 use Rattle.sheets.specs.Pressing.{measured, press_answer, press_output}
 use Rattle.sheets.proofs.Pressed.{enough_work}
 use Rattle.sheets.proofs.Promised.{kept}
