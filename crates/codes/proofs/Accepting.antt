@@ -1,23 +1,23 @@
 -- The test of a list and an index, and the sums of a list that passes it.
 use Rattle.std.proofs.Common.{◌≡◌, ℕ, ◌+◌, ◌-◌, ◌<◌, ◌≤◌, Bool, true, false, cond, ltb, leb, ◌⊎◌, List, [], ◌∷◌, length, get_or, take, sum, sym, refl, ap, ◌∙◌, ap₂, inl, inr, arith, take_all, ltb-true, lt-ltb, le-leb, leb-true}
-use Rattle.std.specs.List.{AllByRecursion as All}
+use Rattle.std.specs.List.{AllByRecursion}
 use Rattle.std.proofs.lemmas.List.{get_or_past}
 use Rattle.std.proofs.lemmas.List.Sums.{sum_by_more, sum_by-take-le}
 use Rattle.std.proofs.lemmas.Bool.{and_from, and_parts, cases_Bool, cases_lt, cond-true, cond-false}
 use Rattle.codes.specs.Weighing.{most_weight, Weights, positive, fine_list, accepts, Exactly, sum_before, sum_of_all, next_index}
 
-pub all_positive : (ws : List ℕ) → All (λ w. 1 ≤ w) ws → positive ws ≡ true
+pub all_positive : (ws : List ℕ) → AllByRecursion (λ w. 1 ≤ w) ws → positive ws ≡ true
 all_positive [] h = refl
 all_positive (w ∷ ws) h = and_from (leb 1 w) (positive ws) (le-leb 1 w h.0) (all_positive ws h.1)
 
-pub positive_all : (ws : List ℕ) → positive ws ≡ true → All (λ w. 1 ≤ w) ws
+pub positive_all : (ws : List ℕ) → positive ws ≡ true → AllByRecursion (λ w. 1 ≤ w) ws
 positive_all [] h = tt
 positive_all (w ∷ ws) h = let p = and_parts (leb 1 w) (positive ws) h in (leb-true 1 w p.0, positive_all ws p.1)
 
-pub fine_yes : (ws : List ℕ) → All (λ w. 1 ≤ w) ws → sum ws ≤ most_weight → fine_list ws ≡ true
+pub fine_yes : (ws : List ℕ) → AllByRecursion (λ w. 1 ≤ w) ws → sum ws ≤ most_weight → fine_list ws ≡ true
 fine_yes ws h k = and_from (positive ws) (leb (sum ws) most_weight) (all_positive ws h) (le-leb (sum ws) most_weight k)
 
-pub fine_each : (ws : List ℕ) → fine_list ws ≡ true → All (λ w. 1 ≤ w) ws
+pub fine_each : (ws : List ℕ) → fine_list ws ≡ true → AllByRecursion (λ w. 1 ≤ w) ws
 fine_each ws h = positive_all ws (and_parts (positive ws) (leb (sum ws) most_weight) h).0
 
 pub fine_bounded : (ws : List ℕ) → fine_list ws ≡ true → sum ws ≤ most_weight
@@ -39,7 +39,7 @@ accepts_weights ws i h = record {
   bounded = fine_bounded ws (accepts_fine ws i h);
 }
 
-pub not_fine : (ws : List ℕ) → (All (λ w. 1 ≤ w) ws → sum ws ≤ most_weight → ⊥) → fine_list ws ≡ false
+pub not_fine : (ws : List ℕ) → (AllByRecursion (λ w. 1 ≤ w) ws → sum ws ≤ most_weight → ⊥) → fine_list ws ≡ false
 not_fine ws h = go (cases_Bool (fine_list ws))
   where
     go : (fine_list ws ≡ true) ⊎ (fine_list ws ≡ false) → fine_list ws ≡ false

@@ -2,7 +2,7 @@
 -- The sums of a list of weights.
 use Rattle.std.specs.Prelude.{◌≡◌, ℕ, ◌+◌, ◌<◌, ◌≤◌, List, [], ◌∷◌, length, take, sum, slice_index}
 use Rattle.std.proofs.Common.{ap, arith, take-take}
-use Rattle.std.specs.List.{AllByRecursion as All}
+use Rattle.std.specs.List.{AllByRecursion}
 use Rattle.std.proofs.lemmas.List.Sums.{sum_by-cons, sum_by_more, sum_by-take-le}
 use Rattle.std.proofs.ByRecursion.{All-get_or}
 use Rattle.codes.specs.Weighing.{Weights}
@@ -22,6 +22,6 @@ pub weight_some : (ws : List ℕ) (i : ℕ) → Weights ws → i < length ws →
 weight_some ws i h l = All-get_or (λ (w : ℕ). 1 ≤ w) ws i 0 l h.each
 
 -- there are no more items than their weights come to
-pub count_le_sum : (ws : List ℕ) → All (λ w. 1 ≤ w) ws → length ws ≤ sum ws
+pub count_le_sum : (ws : List ℕ) → AllByRecursion (λ w. 1 ≤ w) ws → length ws ≤ sum ws
 count_le_sum [] h = omega arith
 count_le_sum (w ∷ ws) h = omega (arith, sum_by-cons (λ (x : ℕ). x) w ws, h.0, count_le_sum ws h.1)

@@ -1,6 +1,6 @@
 -- The lists of weights that codes take, and the sums of such a list.
 use Rattle.std.specs.Prelude.{◌≡◌, ℕ, ◌+◌, ◌≤◌, Bool, true, false, cond, ◌&&◌, List, [], ◌∷◌, length, take, sum, nat_le, nat_lt}
-use Rattle.std.specs.List.{AllByRecursion as All}
+use Rattle.std.specs.List.{AllByRecursion}
 
 -- the largest sum
 abbrev pub most_weight : ℕ
@@ -9,7 +9,7 @@ most_weight = 32767
 -- a list that codes take: at least one weight, each at least 1, with a sum of at most most_weight
 pub record Weights (ws : List ℕ) : Type 0 where
   pub some_weight : 1 ≤ length ws
-  pub each : All (λ w. 1 ≤ w) ws
+  pub each : AllByRecursion (λ w. 1 ≤ w) ws
   pub bounded : sum ws ≤ most_weight
 
 abbrev pub positive : List ℕ → Bool

@@ -1,6 +1,6 @@
 -- Several nodes: the deepest one at or above all of them, and the cover of their tags in any grouping.
 use Rattle.std.proofs.Common.{◌≡◌, ℕ, ◌<◌, ◌≤◌, List, [], ◌∷◌, ◌++◌, None, Ok, Option, refl, ap, ◌∙◌}
-use Rattle.std.specs.List.{AllByRecursion as All}
+use Rattle.std.specs.List.{AllByRecursion}
 use Rattle.trees.specs.Tree.{Tree}
 use Rattle.trees.specs.Above.{AtOrAbove, here}
 use Rattle.trees.specs.Deepest.{AboveAll, Deepest, meet_of, meet_all}
@@ -20,7 +20,7 @@ module _ {parent : ℕ → Option ℕ} {n : ℕ} (word : List ℕ → ℕ → Wo
   abbrev tag_of : ℕ → List ℕ
   tag_of v = tag parent n word number v
 
-  none_missing : (vs : List ℕ) → All (λ x. x < n) vs → first_missing n vs ≡ None
+  none_missing : (vs : List ℕ) → AllByRecursion (λ x. x < n) vs → first_missing n vs ≡ None
   none_missing [] h = refl
   none_missing (v ∷ vs) h = present n v vs h.0 ∙ none_missing vs h.1
 
@@ -46,7 +46,7 @@ module _ {parent : ℕ → Option ℕ} {n : ℕ} (word : List ℕ → ℕ → Wo
         lowest = λ e h. let s = split_above e vs ws h in D.lowest e (X.lowest e s.0, (Y.lowest e s.1, tt));
       }
 
-  split_all : (vs ws : List ℕ) → All (λ x. x < n) (vs ++ ws) → All (λ x. x < n) vs × All (λ x. x < n) ws
+  split_all : (vs ws : List ℕ) → AllByRecursion (λ x. x < n) (vs ++ ws) → AllByRecursion (λ x. x < n) vs × AllByRecursion (λ x. x < n) ws
   split_all [] ws h = (tt, h)
   split_all (v ∷ vs) ws h = let r = split_all vs ws h.1 in ((h.0, r.0), r.1)
 
@@ -57,7 +57,7 @@ module _ {parent : ℕ → Option ℕ} {n : ℕ} (word : List ℕ → ℕ → Wo
     deepest : Deepest parent (members g) at
     bytes : group_tag parent n word number g ≡ Ok (tag_of at)
 
-  comes : (g : Group) → All (λ x. x < n) (members g) → Comes g
+  comes : (g : Group) → AllByRecursion (λ x. x < n) (members g) → Comes g
   comes (lone v) h = record { at = v; inside = h.0; deepest = record { above = itself; lowest = λ e k. k.0 }; bytes = unfold group_tag in refl }
     where
       itself : AboveAll parent v (v ∷ [])

@@ -1,6 +1,6 @@
 -- Heavy paths: what follows what, and where a node stands on its path.
 use Rattle.std.proofs.Common.{◌≡◌, ℕ, zero, suc, ◌+◌, ◌<◌, ◌≤◌, true, false, cond, List, [], ◌∷◌, length, get_or, drop, Some, None, sum_by, Option, sym, refl, ap, ◌∙◌, ⊎_elim, arith, length-drop}
-use Rattle.std.specs.List.{AllByRecursion as All}
+use Rattle.std.specs.List.{AllByRecursion}
 use Rattle.std.proofs.lemmas.List.Sums.{sum_by-cons}
 use Rattle.std.proofs.lemmas.Bool.{cases_Bool}
 use Rattle.trees.specs.Tree.{Tree}
@@ -127,9 +127,9 @@ module _ {parent : ℕ → Option ℕ} {n : ℕ} (T : Tree parent n) where
       let b = sum_by-cons (light_size parent n) t (heavy_path parent n h) in
       rw (path_down t h e) (omega arith))
 
-  pub path_all : (t : ℕ) → t < n → All (λ v. v < n) (heavy_path parent n t)
+  pub path_all : (t : ℕ) → t < n → AllByRecursion (λ v. v < n) (heavy_path parent n t)
   path_all =
-      downward (λ t. All (λ v. v < n) (heavy_path parent n t))
+      downward (λ t. AllByRecursion (λ v. v < n) (heavy_path parent n t))
       (λ t l e. rw (path_leaf t e) (l, tt))
       (λ t h l e ih. rw (path_down t h e) (l, ih))
 

@@ -1,6 +1,6 @@
 -- The numbers below a bound that pass a test.
 use Rattle.std.proofs.Common.{◌≡◌, ℕ, zero, suc, ◌<◌, Bool, true, cond, [], ◌∷◌, length, get_or, sum_by, refl, ◌∙◌, ⊎_elim, arith}
-use Rattle.std.specs.List.{AllByRecursion as All}
+use Rattle.std.specs.List.{AllByRecursion}
 use Rattle.std.proofs.ByRecursion.{All-push}
 use Rattle.std.proofs.lemmas.List.{length_push, get_or_push, get_or_append_left}
 use Rattle.std.proofs.lemmas.List.Sums.{sum_by_push}
@@ -14,7 +14,7 @@ those_sum (suc k) t f =
     let ih = those_sum k t f in
     ⊎_elim (λ e. let s = sum_by_push f (those k t) k in rw e (omega arith)) (λ e. rw e (omega arith)) (cases_Bool (t k))
 
-pub those_all : (P : ℕ → Type 0) (k : ℕ) (t : ℕ → Bool) → ((c : ℕ) → t c ≡ true → P c) → All P (those k t)
+pub those_all : (P : ℕ → Type 0) (k : ℕ) (t : ℕ → Bool) → ((c : ℕ) → t c ≡ true → P c) → AllByRecursion P (those k t)
 unfolding those
 those_all P zero t h = tt
 those_all P (suc k) t h =

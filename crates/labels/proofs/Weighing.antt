@@ -1,6 +1,6 @@
 -- The lists handed to the code, and the words that it gives.
 use Rattle.std.proofs.Common.{◌≡◌, ℕ, ◌+◌, ◌*◌, ◌^◌, ◌<◌, ◌≤◌, true, List, length, get_or, Ok, sum, Option, sym, ap, ◌∙◌, subst, arith}
-use Rattle.std.specs.List.{AllByRecursion as All}
+use Rattle.std.specs.List.{AllByRecursion}
 use Rattle.std.proofs.ByRecursion.{All-map, All-weaker}
 use Rattle.std.proofs.lemmas.List.{length-map, get_or-map}
 use Rattle.std.proofs.lemmas.List.Sums.{sum-map}
@@ -37,7 +37,7 @@ module _ {parent : ℕ → Option ℕ} {n : ℕ} (T : Tree parent n) where
         bounded = let a = path_total t l in let b = size_few T t in let c = T.few in omega arith;
       }
     where
-      each : All (λ w. 1 ≤ w) (path_weights parent n t)
+      each : AllByRecursion (λ w. 1 ≤ w) (path_weights parent n t)
       each =
           unfold path_weights in All-map (λ w. 1 ≤ w) (light_size parent n) (heavy_path parent n t)
           (All-weaker (λ v. v < n) (λ v. 1 ≤ light_size parent n v) (λ v m. light_some T v m) (heavy_path parent n t) (path_all T t l))
@@ -87,7 +87,7 @@ module _ {parent : ℕ → Option ℕ} {n : ℕ} (T : Tree parent n) where
             omega arith;
       }
     where
-      each : All (λ w. 1 ≤ w) (branch_weights parent n p)
+      each : AllByRecursion (λ w. 1 ≤ w) (branch_weights parent n p)
       each =
           unfold branch_weights light_children in All-map (λ w. 1 ≤ w) (size parent n) (those n (is_light parent n p))
           (those_all (λ x. 1 ≤ size parent n x) n (is_light parent n p) (λ x e. size_some T x (child T x p (light_child T p x e)).1))

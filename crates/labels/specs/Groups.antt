@@ -1,6 +1,6 @@
 -- The cover of several tags, joined two by two in any grouping.
 use Rattle.std.specs.Prelude.{◌≡◌, ℕ, ◌<◌, List, [], ◌∷◌, ◌++◌, Ok, Err, Option, Result}
-use Rattle.std.specs.List.{AllByRecursion as All}
+use Rattle.std.specs.List.{AllByRecursion}
 use Rattle.trees.specs.Deepest.{Deepest}
 use Rattle.codes.specs.declared.word.Word.{Word}
 use Rattle.formats.specs.declared.answers.Part.{Part}
@@ -39,6 +39,6 @@ module _ (parent : ℕ → Option ℕ) (n : ℕ) (word : List ℕ → ℕ → Wo
 
   -- Some nodes have one deepest node at or above all of them, and its tag is the cover of their tags, however they are grouped.
   pub record GroupsCover : Type 0 where
-    pub there_is : (v : ℕ) (vs : List ℕ) → All (λ x. x < n) (v ∷ vs) → (d : ℕ) × Deepest parent (v ∷ vs) d
+    pub there_is : (v : ℕ) (vs : List ℕ) → AllByRecursion (λ x. x < n) (v ∷ vs) → (d : ℕ) × Deepest parent (v ∷ vs) d
     pub only : (vs : List ℕ) (d e : ℕ) → Deepest parent vs d → Deepest parent vs e → d ≡ e
-    pub cover_is : (g : Group) (d : ℕ) → All (λ x. x < n) (members g) → Deepest parent (members g) d → group_tag g ≡ Ok (tag parent n word number d)
+    pub cover_is : (g : Group) (d : ℕ) → AllByRecursion (λ x. x < n) (members g) → Deepest parent (members g) d → group_tag g ≡ Ok (tag parent n word number d)

@@ -20,6 +20,7 @@ use Rattle.formats.specs.declared.fault.PairRefusal.{PairRefusal}
 use Rattle.formats.specs.Label.{Label, path, branch}
 use Rattle.formats.specs.Queries.{difference_answer, cover_answer, relate_answer}
 use Rattle.labels.specs.Sizes.{size, heavy, light_size}
+use Rattle.labels.specs.Small.{for_all}
 use Rattle.labels.specs.Labels.{label}
 use Rattle.labels.specs.Sheet.{tag, offset, sheet}
 
@@ -32,16 +33,12 @@ unit_parent v = indented_parent levels v
 abbrev pub unit_tag : ℕ → List ℕ
 unit_tag v = tag unit_parent 6 gilbert_moore 7 v
 
--- for each node, in order
-abbrev pub for_all : {A : Type 0} → (ℕ → A) → List A
-for_all f = map f (range_with_len 0 6)
-
 -- the words of a list of weights, in order
 abbrev pub all_words : (List ℕ → ℕ → Word) → List ℕ → List (List Bool)
 all_words word ws = map (λ i. bits (word ws i)) (range_with_len 0 (length ws))
 
 -- a row of the table for each thing that is worked out
-pub record Table : Type 0 where
+pub record UnitTable : Type 0 where
   pub verdict : Result ℕ HostFault
   pub parents : List (Option ℕ)
   pub in_binary : List (Option ℕ)
@@ -66,7 +63,7 @@ pub record Table : Type 0 where
   pub relate_5_1 : Result Related PairRefusal
 
 -- by the definitions that the contracts cite
-abbrev pub by_definition : Table
+abbrev pub by_definition : UnitTable
 by_definition = record {
   verdict = indented_verdict levels;
   parents = for_all unit_parent;
@@ -93,7 +90,7 @@ by_definition = record {
 }
 
 -- by hand
-abbrev pub by_hand : Table
+abbrev pub by_hand : UnitTable
 by_hand = record {
   verdict = Ok 6;
   parents = None ∷ Some 0 ∷ Some 1 ∷ Some 1 ∷ Some 0 ∷ Some 4 ∷ [];
