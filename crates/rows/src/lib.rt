@@ -5,6 +5,7 @@
 pub mod carrier;
 mod chains;
 pub mod filling;
+pub mod finished;
 mod growth;
 mod marks;
 pub mod parents;

@@ -4,6 +4,13 @@ ghost use Rattle.rows.specs.Rows.{Rooted, parents_in};
 
 use trees::host::Host;
 
+// The row of parents of a tree.
+#[derive(Clone, Copy)]
+pub struct Parents<'a> {
+    pub row: &'a [u16],
+    pub ghost rooted: { Rooted row.now },
+}
+
 // Asks the host once for the parent of each node but the root, and stores it at the node's place.
 pub fn gather<H: Host>(host: &H, up: &mut [u16])
     requires tree { H.verdicts host.now ≡ Ok (length up.old) }
