@@ -1,33 +1,24 @@
 // What a job script and a parts list are made of: numbers, lines, and the level that a line of a parts list begins with.
 #![tactic(auto)]
 
-ghost use Rattle.std.specs.Prelude.{◌≡◌};
+ghost use Rattle.std.specs.Prelude.{◌≡◌, ◌==◌, position};
 ghost use Rattle.std.specs.List.{prefix_len};
 ghost use Rattle.texts.specs.Numbers.{is_digit, one_more, number_of};
-ghost use Rattle.texts.specs.Lines.{in_line, line_of, after_line, without_return};
+ghost use Rattle.texts.specs.Lines.{feed, line_of, after_line, without_return};
 ghost use Rattle.texts.specs.PartsList.{level_of};
 
 // The greatest level that a line may have.
 pub const MOST_LEVEL: u32 = 65_535;
 
-fn is_decimal(b: u8) -> bool
-    ensures { result ≡ is_digit b }
-{
-    b >= b'0' && b <= b'9'
-}
-
 // The number that a digit makes of the one before it, where it is a digit and the number is not above `most`.
 fn with_digit(value: u32, b: u8, most: u32) -> Option<u32>
     ensures { result ≡ one_more most value b }
 {
-    if !is_decimal(b) {
+    if !b.is_ascii_digit() {
         return None;
     }
-    let next = value as u64 * 10 + (b - b'0') as u64;
-    if next > most as u64 {
-        return None;
-    }
-    Some(next as u32)
+    let next = value.checked_mul(10)?.checked_add(u32::from(b - b'0'))?;
+    (next <= most).then_some(next)
 }
 
 // A number: one decimal digit or more and nothing else, at most `most`.
@@ -37,12 +28,9 @@ pub fn number(word: &[u8], most: u32) -> Option<u32>
     if word.is_empty() {
         return None;
     }
-    let mut value: u32 = 0;
+    let mut value = 0;
     for b in word {
-        match with_digit(value, *b, most) {
-            Some(next) => value = next,
-            None => return None,
-        }
+        value = with_digit(value, *b, most)?;
     }
     Some(value)
 }
@@ -51,30 +39,14 @@ pub fn number(word: &[u8], most: u32) -> Option<u32>
 fn digit_count(line: &[u8]) -> usize
     ensures { result ≡ prefix_len is_digit line.now }
 {
-    for (i, b) in line.iter().enumerate() {
-        if !is_decimal(*b) {
-            return i;
-        }
-    }
-    line.len()
+    line.iter().take_while(|b| b.is_ascii_digit()).count()
 }
 
-fn is_in_line(b: u8) -> bool
-    ensures { result ≡ in_line b }
+// Where the first line feed stands.
+fn line_end(text: &[u8]) -> Option<usize>
+    ensures { result ≡ position (λ b. b == feed) text.now }
 {
-    b != b'\n'
-}
-
-// How many bytes stand before the first line feed.
-fn line_length(text: &[u8]) -> usize
-    ensures { result ≡ prefix_len in_line text.now }
-{
-    for (i, b) in text.iter().enumerate() {
-        if !is_in_line(*b) {
-            return i;
-        }
-    }
-    text.len()
+    text.iter().position(|b| *b == b'\n')
 }
 
 // The first line of a text, and what follows its line feed.
@@ -82,11 +54,9 @@ pub fn split_line(text: &[u8]) -> (&[u8], &[u8])
     ensures line { result.0.now ≡ line_of text.now }
     ensures rest { result.1.now ≡ after_line text.now }
 {
-    let n = line_length(text);
-    if n < text.len() {
-        (&text[0..n], &text[n + 1..])
-    } else {
-        (text, &text[n..])
+    match line_end(text) {
+        Some(n) => (&text[..n], &text[n + 1..]),
+        None => (text, &[]),
     }
 }
 
@@ -104,12 +74,9 @@ pub fn trim_return(line: &[u8]) -> &[u8]
 pub fn level(line: &[u8]) -> Option<u16>
     ensures { result ≡ level_of line.now }
 {
-    let n = digit_count(line);
-    if n < line.len() && line[n] != b' ' && line[n] != b'\t' {
+    let (digits, rest) = line.split_at(digit_count(line));
+    if rest.first().is_some_and(|b| *b != b' ' && *b != b'\t') {
         return None;
     }
-    match number(&line[0..n], MOST_LEVEL) {
-        Some(n) => Some(n as u16),
-        None => None,
-    }
+    u16::try_from(number(digits, MOST_LEVEL)?).ok()
 }
