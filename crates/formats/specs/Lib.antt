@@ -9,3 +9,4 @@ pub mod Cuts
 pub mod Pairs
 pub mod Queries
 pub mod Theorems
+pub mod Texts

@@ -4,23 +4,23 @@ ghost use Rattle.formats.specs.Numbers.{number_of, pair_number_of, cut_number_of
 
 use crate::answers::Side;
 
-// Why bytes are no tag.
+// Why bytes are no tag; each fault has its number.
 #[derive(Clone, Copy, Debug, PartialEq, Eq)]
 pub enum TagFault {
     // Fewer than 3 bytes, or tree number 0.
-    Number,
+    Number = 13,
     // The count of fields is even or above 63.
-    Count,
+    Count = 14,
     // Too short for its ends and depths.
-    Head,
+    Head = 15,
     // An end is not above the one before it, or by more than 32, or is above 1,024.
-    End,
+    End = 16,
     // A depth is not above the one before it, or is above 32,766.
-    Depth,
+    Depth = 17,
     // The length is wrong.
-    Length,
+    Length = 18,
     // An unused body bit is 1.
-    Spare,
+    Spare = 19,
 }
 
 // Why a query on two tags has no answer.
@@ -49,15 +49,7 @@ impl TagFault {
     pub fn number(&self) -> u8
         ensures { result ≡ number_of self.now }
     {
-        match self {
-            TagFault::Number => 13,
-            TagFault::Count => 14,
-            TagFault::Head => 15,
-            TagFault::End => 16,
-            TagFault::Depth => 17,
-            TagFault::Length => 18,
-            TagFault::Spare => 19,
-        }
+        *self as u8
     }
 }
 
@@ -70,6 +62,16 @@ impl PairRefusal {
             PairRefusal::TreeNumbers => 20,
             PairRefusal::NotOneTree => 21,
         }
+    }
+}
+
+impl From<TagFault> for CutRefusal {
+    ghost use Rattle.formats.specs.declared.fault.CutRefusal.TheVariants.{InTag};
+
+    ghost from_gives = { λ fault refusal. refusal ≡ InTag fault };
+
+    fn from(fault: TagFault) -> CutRefusal {
+        CutRefusal::InTag { fault }
     }
 }
 
