@@ -14,7 +14,7 @@ fn no_host(out: &mut Vec<u8>) -> io::Result<()> {
 }
 
 fn say_fault(fault: HostFault, out: &mut Vec<u8>) -> io::Result<()> {
-    let kind = fault.kind;
+    let kind = fault.kind.number();
     let place = fault.place;
     writeln!(out, "fault kind {kind} place {place}")
 }

@@ -21,7 +21,7 @@ fn say_press_refused(refusal: PressRefusal, out: &mut Vec<u8>) -> io::Result<()>
     let number = refusal.number();
     match refusal {
         PressRefusal::NoTree(fault) => {
-            let kind = fault.kind;
+            let kind = fault.kind.number();
             let place = fault.place;
             writeln!(out, "refused {number} kind {kind} place {place}")
         }

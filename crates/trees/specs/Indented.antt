@@ -1,8 +1,10 @@
 -- What a host of indented lines answers: line v of a parts list, with its level, is node v.
 use Rattle.std.specs.Prelude.{ℕ, zero, suc, ◌+◌, ◌-◌, Bool, cond, ◌||◌, List, length, Some, None, Ok, Err, Option, Result, ◌==◌, nat_lt, slice_index}
+use Rattle.trees.specs.declared.host.FaultKind.TheVariants.{Empty, TooMany, FirstLevel, Level}
 use Rattle.trees.specs.declared.host.HostFault.{HostFault}
 use Rattle.trees.specs.Tree.{most_nodes}
-use Rattle.trees.specs.Host.{fault, empty_kind, too_many_kind, first_level_kind, level_kind, for_children}
+use Rattle.trees.specs.Fault.{fault}
+use Rattle.trees.specs.Host.{for_children}
 
 -- line v, which is not the first, has level 0, or a level more than one above that of the line before
 abbrev pub misplaced : List ℕ → ℕ → Bool
@@ -19,16 +21,16 @@ first_misplaced xs (suc k) = or_else (first_misplaced xs k) (cond (misplaced xs 
 
 -- a fault at that line, or a tree of n nodes
 abbrev pub unless_misplaced : Option ℕ → ℕ → Result ℕ HostFault
-unless_misplaced (Some v) n = Err (fault level_kind v)
+unless_misplaced (Some v) n = Err (fault Level v)
 unless_misplaced None n = Ok n
 
 abbrev pub indented_verdict : List ℕ → Result ℕ HostFault
 indented_verdict xs =
-    cond (length xs == 0) (Err (fault empty_kind 0))
-    (cond (nat_lt most_nodes (length xs)) (Err (fault too_many_kind most_nodes))
+    cond (length xs == 0) (Err (fault Empty 0))
+    (cond (nat_lt most_nodes (length xs)) (Err (fault TooMany most_nodes))
     (cond (slice_index xs 0 == 0)
     (unless_misplaced (first_misplaced xs (length xs - 1)) (length xs))
-    (Err (fault first_level_kind 0))))
+    (Err (fault FirstLevel 0))))
 
 -- the greatest u below v whose level is one less than l
 abbrev pub nearest : List ℕ → ℕ → ℕ → Option ℕ

@@ -2,9 +2,10 @@
 use Rattle.std.specs.Prelude.{◌≡◌, ℕ, zero, suc, ◌+◌, ◌-◌, ◌<◌, ◌≤◌, Bool, true, false, cond, List, length, Some, None, Ok, Err, Option, ◌==◌, nat_lt, slice_index, slice_index_or, refl}
 use Rattle.std.proofs.Common.{ap, subst, ◌∙◌, ⊎_elim, arith}
 use Rattle.std.proofs.lemmas.Bool.{eqb-true, eqb-false, ltb-false, or_parts, cases_lt, cases_eq, eq-eqb, ne_eqb}
+use Rattle.trees.specs.declared.host.FaultKind.TheVariants.{Empty, TooMany, FirstLevel}
 use Rattle.trees.specs.declared.host.HostFault.{HostFault}
 use Rattle.trees.specs.Tree.{Tree, most_nodes}
-use Rattle.trees.specs.Host.{fault, empty_kind, too_many_kind, first_level_kind}
+use Rattle.trees.specs.Fault.{fault}
 use Rattle.trees.specs.HostLaw.{host_tree}
 use Rattle.trees.specs.Indented.{misplaced, or_else, first_misplaced, unless_misplaced, indented_verdict, nearest, indented_parent}
 
@@ -72,8 +73,8 @@ passed false false true x y z o m n e = let k = unless o m n e in (refl, refl, r
 sound : (xs : List ℕ) (n : ℕ) → indented_verdict xs ≡ Ok n → Sound xs n
 sound xs n e =
     let k =
-    passed (length xs == 0) (nat_lt most_nodes (length xs)) (slice_index xs 0 == 0) (fault empty_kind 0) (fault too_many_kind most_nodes)
-    (fault first_level_kind 0) (first_misplaced xs (length xs - 1)) (length xs) n e in
+    passed (length xs == 0) (nat_lt most_nodes (length xs)) (slice_index xs 0 == 0) (fault Empty 0) (fault TooMany most_nodes)
+    (fault FirstLevel 0) (first_misplaced xs (length xs - 1)) (length xs) n e in
     let a = eqb-false (length xs) 0 k.0 in
     let b = ltb-false most_nodes (length xs) k.1 in
     let c : length xs ≡ n = k.4 in

@@ -2,6 +2,7 @@ pub mod Tree
 pub mod Above
 pub mod Order
 pub mod Deepest
+pub mod Fault
 pub mod Host
 pub mod HostLaw
 pub mod Rule

@@ -1,15 +1,17 @@
 -- What a host by a rule answers.
-use Rattle.std.specs.Prelude.{ℕ, ◌-◌, ◌/◌, cond, Some, Ok, Err, Option, Result, ◌==◌, nat_lt}
+use Rattle.std.specs.Prelude.{ℕ, ◌-◌, ◌/◌, cond, Some, Ok, Err, Option, Result, ◌==◌, nat_lt, List, codes}
+use Rattle.trees.specs.declared.host.FaultKind.TheVariants.{Empty, TooMany}
 use Rattle.trees.specs.declared.host.HostFault.{HostFault}
 use Rattle.trees.specs.declared.rule.Shape.{Shape}
 use Rattle.trees.specs.declared.rule.Shape.TheVariants.{Chain, Star, Binary}
 use Rattle.trees.specs.Tree.{most_nodes}
-use Rattle.trees.specs.Host.{fault, empty_kind, too_many_kind, for_children}
+use Rattle.trees.specs.Fault.{fault}
+use Rattle.trees.specs.Host.{for_children}
 
 abbrev pub rule_verdict : ℕ → Result ℕ HostFault
 rule_verdict n =
-    cond (n == 0) (Err (fault empty_kind 0))
-    (cond (nat_lt most_nodes n) (Err (fault too_many_kind 0))
+    cond (n == 0) (Err (fault Empty 0))
+    (cond (nat_lt most_nodes n) (Err (fault TooMany 0))
     (Ok n))
 
 -- the parent of a node other than the root
@@ -20,3 +22,9 @@ parent_by Binary v = (v - 1) / 2
 
 abbrev pub rule_parent : Shape → ℕ → ℕ → Option ℕ
 rule_parent s n v = for_children (rule_verdict n) v (Some (parent_by s v))
+
+-- how a shape is printed
+abbrev pub shape_name : Shape → List ℕ
+shape_name Chain = codes "chain"
+shape_name Star = codes "star"
+shape_name Binary = codes "binary"

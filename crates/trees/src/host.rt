@@ -1,25 +1,59 @@
 // What a tree of parts is asked, by whoever labels it.
-ghost use Rattle.std.specs.Prelude.{◌≡◌, ℕ, Ok, Option, Result};
+ghost use Rattle.std.specs.Prelude.{◌≡◌, ℕ, Some, Ok, Option, Result};
 ghost use Rattle.trees.specs.Tree.{Tree};
+ghost use Rattle.trees.specs.Fault.{kind_number, fault_text};
 ghost use Rattle.trees.specs.declared.host.HostFault.{HostFault};
+
+use std::fmt;
 
 // The most nodes that a tree may have.
 pub const MOST_NODES: u16 = 32_767;
 
-// The kinds of fault that our hosts find; another host may have kinds of its own.
-pub const KIND_EMPTY: u16 = 1;
+// The kinds of fault.
+#[derive(Clone, Copy, PartialEq, Eq, Debug)]
+pub enum FaultKind {
+    // There is no node.
+    Empty,
+    // There are more nodes than a tree may have.
+    TooMany,
+    // The first level of a list is not 0.
+    FirstLevel,
+    // A later level is 0, or above the level before by more than one.
+    Level,
+    // A kind of somebody else's host, by its number.
+    Other(u16),
+}
 
-pub const KIND_TOO_MANY: u16 = 2;
-
-pub const KIND_FIRST_LEVEL: u16 = 7;
-
-pub const KIND_LEVEL: u16 = 8;
+impl FaultKind {
+    // The number that a kind is known by.
+    pub fn number(self) -> u16
+        ensures { result ≡ kind_number self }
+    {
+        match self {
+            FaultKind::Empty => 1,
+            FaultKind::TooMany => 2,
+            FaultKind::FirstLevel => 7,
+            FaultKind::Level => 8,
+            FaultKind::Other(number) => number,
+        }
+    }
+}
 
 // Why a host has no tree: which rule is broken, and where.
 #[derive(Clone, Copy, PartialEq, Eq, Debug)]
 pub struct HostFault {
-    pub kind: u16,
+    pub kind: FaultKind,
     pub place: usize,
+}
+
+impl fmt::Display for HostFault {
+    ghost output = { λ fault. Some (fault_text fault) };
+
+    fn fmt<W: fmt::Write>(&self, f: &mut fmt::Formatter<W>) -> fmt::Result {
+        let kind = self.kind.number();
+        let place = self.place;
+        write!(f, "kind {kind} place {place}")
+    }
 }
 
 // A host answers for one tree: whether there is one, and who is whose parent. Neither question changes it.

@@ -3,9 +3,7 @@ ghost use Rattle.std.specs.Prelude.{◌≡◌, ◌+◌, ◌-◌, ◌<◌, ◌≤
 ghost use Rattle.trees.specs.Indented.{indented_verdict, indented_parent, nearest, misplaced, first_misplaced};
 ghost use Rattle.trees.specs.IndentedLaw.{indented_tree};
 
-use crate::host::{
-    Host, HostFault, KIND_EMPTY, KIND_FIRST_LEVEL, KIND_LEVEL, KIND_TOO_MANY, MOST_NODES,
-};
+use crate::host::{FaultKind, Host, HostFault, MOST_NODES};
 
 // The levels of a parts list, one to a line, and whether they give a tree.
 #[derive(Clone, Copy)]
@@ -55,25 +53,25 @@ fn judge(levels: &[u16]) -> Result<u16, HostFault>
     let n = levels.len();
     if n == 0 {
         return Err(HostFault {
-            kind: KIND_EMPTY,
+            kind: FaultKind::Empty,
             place: 0,
         });
     }
     if n > MOST_NODES as usize {
         return Err(HostFault {
-            kind: KIND_TOO_MANY,
+            kind: FaultKind::TooMany,
             place: MOST_NODES as usize,
         });
     }
     if levels[0] != 0 {
         return Err(HostFault {
-            kind: KIND_FIRST_LEVEL,
+            kind: FaultKind::FirstLevel,
             place: 0,
         });
     }
     match misplaced_line(levels) {
         Some(v) => Err(HostFault {
-            kind: KIND_LEVEL,
+            kind: FaultKind::Level,
             place: v,
         }),
         None => Ok(n as u16),

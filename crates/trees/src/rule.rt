@@ -1,9 +1,10 @@
 // Trees that a rule gives.
-ghost use Rattle.std.specs.Prelude.{◌≡◌, false, is_ok, None};
-ghost use Rattle.trees.specs.Rule.{rule_verdict, rule_parent};
+ghost use Rattle.std.specs.Prelude.{◌≡◌, false, is_ok, None, Some};
+ghost use Rattle.trees.specs.Rule.{rule_verdict, rule_parent, shape_name};
 ghost use Rattle.trees.specs.RuleLaw.{rule_tree};
 
-use crate::host::{Host, HostFault, KIND_EMPTY, KIND_TOO_MANY, MOST_NODES};
+use crate::host::{FaultKind, Host, HostFault, MOST_NODES};
+use std::fmt;
 
 #[derive(Clone, Copy, PartialEq, Eq, Debug)]
 pub enum Shape {
@@ -13,6 +14,18 @@ pub enum Shape {
     Star,
     // Nodes 2·u + 1 and 2·u + 2 are the children of node u.
     Binary,
+}
+
+impl fmt::Display for Shape {
+    ghost output = { λ shape. Some (shape_name shape) };
+
+    fn fmt<W: fmt::Write>(&self, f: &mut fmt::Formatter<W>) -> fmt::Result {
+        f.write_str(match self {
+            Shape::Chain => "chain",
+            Shape::Star => "star",
+            Shape::Binary => "binary",
+        })
+    }
 }
 
 // The tree of a shape with a count of nodes.
@@ -32,13 +45,13 @@ impl Host for RuleHost {
     fn verdict(&self) -> Result<u16, HostFault> {
         if self.count == 0 {
             return Err(HostFault {
-                kind: KIND_EMPTY,
+                kind: FaultKind::Empty,
                 place: 0,
             });
         }
         if self.count > MOST_NODES {
             return Err(HostFault {
-                kind: KIND_TOO_MANY,
+                kind: FaultKind::TooMany,
                 place: 0,
             });
         }

@@ -1,13 +1,13 @@
 // Examples of hosts and of climbing.
 use crate::climb::{Assembly, ClimbRefusal, depth, is_at_or_above, meet};
-use crate::host::{Host, HostFault};
+use crate::host::{FaultKind, Host, HostFault};
 use crate::indented::IndentedHost;
 use crate::rule::{RuleHost, Shape};
 use std::test::Fail;
 
 const SMALL: [u16; 6] = [0, 1, 2, 2, 1, 2];
 
-fn fault(kind: u16, place: usize) -> Result<u16, HostFault> {
+fn fault(kind: FaultKind, place: usize) -> Result<u16, HostFault> {
     Err(HostFault { kind, place })
 }
 
@@ -39,12 +39,51 @@ fn a_binary_tree(rt: HostRuntime) {
 
 #[test]
 fn faults_at_their_places(rt: HostRuntime) {
-    assert_eq!(rt; IndentedHost::new(&[]).verdict(), fault(1, 0));
-    assert_eq!(rt; IndentedHost::new(&[1, 2]).verdict(), fault(7, 0));
-    assert_eq!(rt; IndentedHost::new(&[0, 1, 0]).verdict(), fault(8, 2));
-    assert_eq!(rt; IndentedHost::new(&[0, 65_535]).verdict(), fault(8, 1));
-    assert_eq!(rt; IndentedHost::new(&[0, 1, 3, 0]).verdict(), fault(8, 2));
+    assert_eq!(rt;
+        IndentedHost::new(&[]).verdict(),
+        fault(FaultKind::Empty, 0)
+    );
+    assert_eq!(rt;
+        IndentedHost::new(&[1, 2]).verdict(),
+        fault(FaultKind::FirstLevel, 0)
+    );
+    assert_eq!(rt;
+        IndentedHost::new(&[0, 1, 0]).verdict(),
+        fault(FaultKind::Level, 2)
+    );
+    assert_eq!(rt;
+        IndentedHost::new(&[0, 65_535]).verdict(),
+        fault(FaultKind::Level, 1)
+    );
+    assert_eq!(rt;
+        IndentedHost::new(&[0, 1, 3, 0]).verdict(),
+        fault(FaultKind::Level, 2)
+    );
     assert_eq!(rt; IndentedHost::new(&[0, 1, 3, 0]).parent(1), None);
+}
+
+#[test]
+fn kinds_have_numbers(rt: HostRuntime) -> Result<(), Fail> {
+    assert_eq!(rt; FaultKind::Empty.number(), 1);
+    assert_eq!(rt; FaultKind::TooMany.number(), 2);
+    assert_eq!(rt; FaultKind::FirstLevel.number(), 7);
+    assert_eq!(rt; FaultKind::Level.number(), 8);
+    assert_eq!(rt; FaultKind::Other(99).number(), 99);
+    let fault = HostFault {
+        kind: FaultKind::Other(99),
+        place: 32_767,
+    };
+    let printed = format!(in rt.alloc(); "{fault}")?;
+    assert_eq!(rt; printed.as_str(), "kind 99 place 32767");
+    Ok(())
+}
+
+#[test]
+fn shapes_have_names(rt: HostRuntime) -> Result<(), Fail> {
+    let (chain, star, binary) = (Shape::Chain, Shape::Star, Shape::Binary);
+    let printed = format!(in rt.alloc(); "{chain} {star} {binary}")?;
+    assert_eq!(rt; printed.as_str(), "chain star binary");
+    Ok(())
 }
 
 #[test]
@@ -54,7 +93,7 @@ fn the_longest_list(rt: HostRuntime) -> Result<(), Fail> {
     levels[0] = 0;
     assert_eq!(rt;
         IndentedHost::new(levels.as_slice()).verdict(),
-        fault(2, 32_767)
+        fault(FaultKind::TooMany, 32_767)
     );
     let host = IndentedHost::new(&levels.as_slice()[0..32_767]);
     assert_eq!(rt; host.verdict(), Ok(32_767));
