@@ -2,4 +2,3 @@ pub mod Accepting
 pub mod Answering
 pub mod Shifts
 pub mod Descents
-pub mod Filled

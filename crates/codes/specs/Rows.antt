@@ -1,13 +1,11 @@
 -- The words of a whole list in three rows of numbers of 16 bits.
 use Rattle.std.specs.Prelude.{◌≡◌, ℕ, zero, suc, ◌/◌, ◌%◌, cond, ◌&&◌, List, length, Ok, Err, Result, nat_le, slice_set}
 use Rattle.codes.specs.declared.word.Word.{Word}
+use Rattle.codes.specs.declared.rows.WordRows.{WordRows}
 use Rattle.codes.specs.declared.rows.EncodeRefusal.{EncodeRefusal}
 use Rattle.codes.specs.declared.rows.EncodeRefusal.TheVariants.{NotAccepted, RowTooShort}
+use Rattle.codes.specs.Words.{half_range}
 use Rattle.codes.specs.Weighing.{accepts}
-
--- how many numbers have 16 bits
-abbrev pub half_range : ℕ
-half_range = 65536
 
 -- a row whose first n places were written with g 0, g 1, and so on; the others stay
 abbrev pub filled : (ℕ → ℕ) → ℕ → List ℕ → List ℕ
@@ -26,3 +24,7 @@ encode_answer ws a b c =
     cond (accepts ws 0)
     (cond (nat_le (length ws) a && (nat_le (length ws) b && nat_le (length ws) c)) (Ok tt) (Err RowTooShort))
     (Err NotAccepted)
+
+-- the same three rows, whatever they hold
+abbrev pub Same : WordRows → WordRows → Type 0
+Same a b = (b.high.ghost_name ≡ a.high.ghost_name) × (b.low.ghost_name ≡ a.low.ghost_name) × (b.len.ghost_name ≡ a.len.ghost_name)

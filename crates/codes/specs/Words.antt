@@ -11,6 +11,10 @@ abbrev pub digits : ℕ → ℕ → List Bool
 digits zero v = []
 digits (suc n) v = digits n (v / 2) ++ (odd v ∷ [])
 
+-- how many numbers have 16 bits: a value is kept as its high and its low half
+abbrev pub half_range : ℕ
+half_range = 65536
+
 -- the bits of a word, the high one first
 abbrev pub bits : Word → List Bool
 bits w = digits w.len w.value

@@ -3,7 +3,7 @@ use crate::bisection::Bisection;
 use crate::code::{CodeRefusal, word_at};
 use crate::gilbert_moore::GilbertMoore;
 use crate::item::Item;
-use crate::rows::{EncodeRefusal, encode};
+use crate::rows::{EncodeRefusal, WordRows, encode};
 use crate::word::Word;
 use std::test::Fail;
 
@@ -72,16 +72,21 @@ fn rows(rt: HostRuntime) -> Result<(), Fail> {
     let mut high = [9u16; 4];
     let mut low = [9u16; 4];
     let mut len = [9u16; 4];
+    let mut rows = WordRows {
+        high: &mut high,
+        low: &mut low,
+        len: &mut len,
+    };
     assert_eq!(rt;
-        encode(&GilbertMoore, &[3, 0], &mut high, &mut low, &mut len),
+        encode(&GilbertMoore, &[3, 0], &mut rows),
         Err(EncodeRefusal::NotAccepted)
     );
     assert_eq!(rt;
-        encode(&GilbertMoore, &[1; 5], &mut high, &mut low, &mut len),
+        encode(&GilbertMoore, &[1; 5], &mut rows),
         Err(EncodeRefusal::RowTooShort)
     );
-    assert_eq!(rt; low, [9, 9, 9, 9]);
-    encode(&GilbertMoore, &THREE, &mut high, &mut low, &mut len)?;
+    assert_eq!(rt; &*rows.low, [9, 9, 9, 9].as_slice());
+    encode(&GilbertMoore, &THREE, &mut rows)?;
     assert_eq!(rt; high, [0, 0, 0, 9]);
     assert_eq!(rt; low, [1, 5, 14, 9]);
     assert_eq!(rt; len, [2, 3, 4, 9]);

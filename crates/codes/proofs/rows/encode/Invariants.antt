@@ -1,10 +1,14 @@
-use Rattle.std.proofs.Common.{◌≡◌}
-use Rattle.codes.specs.Rows.{Encoded}
+use Rattle.std.proofs.Common.{◌≡◌, ◌-◌, ◌≤◌, length}
+use Rattle.codes.specs.Rows.{Encoded, Same}
 use Rattle.codes.proofs.rows.encode.Given as goal
 
--- the item is that of the turn, and the words of the items before it are written
-abbrev pub invariant-loop-i : goal.invariant-loop-i
-invariant-loop-i g l =
+-- the words of the items before this one are written
+abbrev pub invariant-loop-word : goal.invariant-loop-word
+invariant-loop-word g l =
     (l.item.weights.now ≡ l.weights)
-    × (l.item.index ≡ l.i)
-    × Encoded (g.C.Code.words l.code l.weights) l.i l.initial.high l.initial.low l.initial.len l.high l.low l.len
+    × (l.item.index ≤ length l.weights)
+    × Encoded (g.C.Code.words l.code l.weights) l.item.index l.initial.rows.high.now l.initial.rows.low.now l.initial.rows.len.now l.rows.high.now l.rows.low.now l.rows.len.now
+    × Same l.initial.rows l.rows
+
+abbrev pub decreases-loop-word : goal.decreases-loop-word
+decreases-loop-word g l = length l.weights - l.item.index
