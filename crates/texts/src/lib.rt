@@ -28,11 +28,8 @@ pub fn number(word: &[u8], most: u32) -> Option<u32>
     if word.is_empty() {
         return None;
     }
-    let mut value = 0;
-    for b in word {
-        value = with_digit(value, *b, most)?;
-    }
-    Some(value)
+    word.iter()
+        .try_fold(0, |value, b| with_digit(value, *b, most))
 }
 
 // How many digits a line begins with.

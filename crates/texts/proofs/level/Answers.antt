@@ -2,7 +2,7 @@ use Rattle.std.proofs.Common.{sym, arith}
 use Rattle.std.proofs.lemmas.List.Sums.{prefix_len-le-length}
 use Rattle.texts.specs.Numbers.{is_digit}
 use Rattle.std.proofs.lemmas.Grind.{common_steps}
-use Rattle.texts.proofs.Steps.{small}
+use Rattle.texts.proofs.Bounds.{small}
 use Rattle.texts.proofs.level.Goals as goal
 
 pub split_at-requires : goal.split_at-requires
