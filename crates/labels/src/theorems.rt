@@ -10,94 +10,68 @@ ghost use Rattle.labels.specs.Small.{Table};
 ghost use Rattle.labels.specs.Unit.{WorkedOut};
 
 // The small tree of levels 0, 1, 2, 2, 1, 2, worked out to the bytes of its sheet.
-pub fn table_stands() -> u8
+pub fn table_stands()
     ensures { Table }
-{
-    0
-}
+{}
 
 // The unit of levels 0, 1, 2, 2, 1, 2, from its parents to the bytes of its sheet and what its tags say of each other; and the words of some weights.
-pub fn unit_stands() -> u8
+pub fn unit_stands()
     ensures { WorkedOut }
-{
-    0
-}
+{}
 
 // Size, heavy child, path, top and label, by equations that count no steps.
-pub fn definitions_stand() -> u8
+pub fn definitions_stand()
     ensures { DefinitionsMean }
-{
-    0
-}
+{}
 
 // The lists handed to a code are lists that every code takes, with their sums.
-pub fn lists_stand() -> u8
+pub fn lists_stand()
     ensures { ListsAccepted }
-{
-    0
-}
+{}
 
 // A light child has at most half of what its parent's size leaves.
-pub fn halves_stand() -> u8
+pub fn halves_stand()
     ensures { LightHalves }
-{
-    0
-}
+{}
 
 // A label has at most 2 * t - 1 fields, so at most 29.
-pub fn fields_stand() -> u8
+pub fn fields_stand()
     ensures { FieldsBounded }
-{
-    0
-}
+{}
 
 // A label has at most 928 bits, and its tag is readable and reads as it.
-pub fn tags_stand() -> u8
+pub fn tags_stand()
     ensures { TagsReadable }
-{
-    0
-}
+{}
 
 // The cover of two labels is the label of the deepest node at or above both; the same for tags, and no query refuses.
-pub fn cover_stands() -> u8
+pub fn cover_stands()
     ensures labels { Everywhere Covers }
     ensures tags { Numbered TagCovers }
-{
-    0
-}
+{}
 
 // The relation of two labels is that of their nodes; the same for tags, and no query refuses.
-pub fn relation_stands() -> u8
+pub fn relation_stands()
     ensures labels { Everywhere Relates }
     ensures tags { Numbered TagRelates }
-{
-    0
-}
+{}
 
 // Different nodes have different labels and tags, and a tag cut at all its fields is itself.
-pub fn distinct_stands() -> u8
+pub fn distinct_stands()
     ensures { Numbered Distinct }
-{
-    0
-}
+{}
 
 // Under every balanced code, and so under that of Gilbert and Moore, a body has at most 5 * b + 2 bits.
-pub fn bodies_stand() -> u8
+pub fn bodies_stand()
     ensures { BodiesShort }
-{
-    0
-}
+{}
 
 // Some nodes have one deepest node at or above all of them, and their tags, covered in any grouping, come to its tag.
-pub fn groups_stand() -> u8
+pub fn groups_stand()
     ensures { Numbered GroupsCover }
-{
-    0
-}
+{}
 
 // What stands where on a sheet: its numbers, its offsets, and each node's tag between two of them.
-pub fn sheets_stand() -> u8
+pub fn sheets_stand()
     ensures { Numbered SheetHolds }
-{
-    0
-}
+{}
