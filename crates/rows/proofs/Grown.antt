@@ -8,8 +8,8 @@ use Rattle.labels.specs.Sizes.{sum_to, size, heavy}
 use Rattle.trees.proofs.Upward.{child}
 use Rattle.trees.proofs.Above.{above_none, above_some}
 use Rattle.labels.proofs.Sizes.{heavy_most, heavy_first, heavy_none, heavy_child}
-use Rattle.rows.specs.Chains.{at}
-use Rattle.rows.specs.Rows.{parents_in, Rooted, SizeRow, link}
+use Rattle.rows.specs.Chains.{at, link}
+use Rattle.rows.specs.Rows.{parents_in, Rooted, SizeRow}
 use Rattle.rows.proofs.Trees.{tree, parent_is}
 
 -- c is a child of v

@@ -12,7 +12,7 @@ use Rattle.labels.specs.Paths.{top}
 use Rattle.labels.specs.Labels.{path_word, branch_word, path_field, branch_field}
 use Rattle.labels.specs.Bounds.{most_label_fields, most_label_bits}
 use Rattle.labels.proofs.Sizes.{heavy_test, light_test}
-use Rattle.labels.proofs.Paths.{top_none, top_heavy, top_light, top_le}
+use Rattle.labels.proofs.Paths.{top_none, top_heavy, top_le}
 use Rattle.labels.proofs.Weighing.{path_fit, branch_fit}
 use Rattle.labels.proofs.Labels.{definitions_mean}
 use Rattle.labels.proofs.Short as short
@@ -20,7 +20,6 @@ use Rattle.labels.proofs.Shape as shape
 use Rattle.rows.specs.Chains.{at}
 use Rattle.rows.specs.Rows.{parents_in, Rooted, HeavyRow, PathRows, BranchRows, TopRow, row_label}
 use Rattle.rows.proofs.Trees.{tree, parent_is, top_top, heavy_some_at}
-use Rattle.rows.proofs.PathRows.{sure}
 
 -- one more number of a row
 pub stored_more : (F : ℕ → ℕ) (xs : List ℕ) (v x : ℕ) → x ≡ F v → v < length xs → ((k : ℕ) → k < v → at xs k ≡ F k) → (k : ℕ) → k < v + 1 → at (set xs v x) k ≡ F k
@@ -62,10 +61,6 @@ module _ (up : List ℕ) (r : Rooted up) where
         let ne : at row (at up v) ≡ 0 → ⊥ = λ z. omega arith in
         let x : heavy P N (at up v) ≡ Some v = heavy_some_at up row r H even (at up v) (omega arith) ne ∙ ap {B = Option ℕ} Some e in
         sym (top_heavy (tree up r) v (at up v) (parent_is up v pos lv) (heavy_test (tree up r) (at up v) v x)).0
-
-    pub top_new : (at row (at up v) ≡ v → ⊥) → v ≡ top P N v
-    top_new ne =
-        ⊎_elim (λ y. absurd (ne (sure up row r H even v pos lv y))) (λ y. sym (top_light (tree up r) v (at up v) (parent_is up v pos lv) y).0) (cases_Bool (is_heavy P N (at up v) v))
 
   -- the first node of a path, if it is not the root, is a light child
   pub light_top : (v : ℕ) → v < N → (top P N v ≡ 0 → ⊥) → is_light P N (at up (top P N v)) (top P N v) ≡ true

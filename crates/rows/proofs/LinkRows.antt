@@ -7,7 +7,7 @@ use Rattle.labels.specs.Sizes.{those, heavy, is_heavy, is_light, light_children}
 use Rattle.trees.proofs.Upward.{child}
 use Rattle.labels.proofs.Sizes.{light_child, light_not, light_test, heavy_test}
 use Rattle.rows.specs.Chains.{at, Rising, run, chain}
-use Rattle.rows.proofs.Runs.{up, chain_last, chain_on}
+use Rattle.rows.proofs.Runs.{chain_last, chain_on}
 use Rattle.rows.specs.Rows.{parents_in, Rooted, HeavyRow, linked, LightLinks}
 use Rattle.rows.proofs.Trees.{tree, parent_is, heavy_some_at}
 use Rattle.rows.proofs.PathRows.{sure}
@@ -44,7 +44,7 @@ chain_set next R v y (suc k) c h l =
     let s = get_or-set_other next v c y 0 ne in
     rw s
     (⊎_elim (λ z. rw (eq-eqb (at next c) 0 z) refl)
-    (λ nz. let u = up next R c l nz in ap {B = List ℕ} (λ xs. c ∷ cond (eqb (at next c) 0) [] xs) (chain_set next R v y k (at next c) (omega arith) u.1))
+    (λ nz. let u = R c l nz in ap {B = List ℕ} (λ xs. c ∷ cond (eqb (at next c) 0) [] xs) (chain_set next R v y k (at next c) (omega arith) u.1))
     (cases_eq (at next c) 0))
 
 pub record LinkFrom (ups first next : List ℕ) (j : ℕ) : Type 0 where
@@ -56,7 +56,7 @@ pub link_start : (ups first next : List ℕ) → ((p : ℕ) → p < length ups �
 unfolding from
 link_start ups first next a b =
     record {
-      rising = λ c l. inl (b c l);
+      rising = λ c l ne. absurd (ne (b c l));
       firsts = λ p l. inl (a p l);
       lists = λ p l. rw (sub_self (length ups), eq-eqb (at first p) 0 (a p l)) refl;
     }
@@ -122,14 +122,14 @@ module _ (ups row first next : List ℕ) (r : Rooted ups) (H : HeavyRow ups row)
     next' = set next v (at first p₀)
 
     rising' : Rising next'
-    rising' c l =
+    rising' c l ne =
         let ln = length-set next v (at first p₀) in
         let bp = r.below v pos lv in
         ⊎_elim
         (λ (s : c ≡ v). let q : at next' c ≡ at first p₀ = rw s (get_or-set_same next v (at first p₀) 0 (omega arith)) in
-        ⊎_elim (λ z. inl (q ∙ z)) (λ h. inr (omega (arith, h.0), omega (arith, h.1))) (L.firsts p₀ (omega arith)))
+        ⊎_elim (λ z. absurd (ne (q ∙ z))) (λ h. (omega (arith, h.0), omega (arith, h.1))) (L.firsts p₀ (omega arith)))
         (λ (d : c ≡ v → ⊥). let q = get_or-set_other next v c (at first p₀) 0 d in
-        ⊎_elim (λ z. inl (q ∙ z)) (λ h. inr (omega (arith, h.0), omega (arith, h.1))) (L.rising c (omega arith)))
+        let h = L.rising c (omega arith) (λ z. ne (q ∙ z)) in (omega (arith, h.0), omega (arith, h.1)))
         (cases_eq c v)
 
     same : (c : ℕ) → j ≤ c → c < length ups → chain next' c ≡ chain next c

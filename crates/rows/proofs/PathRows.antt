@@ -1,5 +1,5 @@
 -- The turns of `lights` and `path_words`.
-use Rattle.std.proofs.Common.{◌≡◌, ℕ, ◌+◌, ◌-◌, ◌<◌, ◌≤◌, true, ◌⊎◌, List, map, length, Some, Option, sym, refl, ap, ◌∙◌, subst, ⊎_elim, arith}
+use Rattle.std.proofs.Common.{◌≡◌, ℕ, ◌+◌, ◌-◌, ◌<◌, ◌≤◌, true, List, map, length, Some, Option, sym, refl, ap, ◌∙◌, subst, ⊎_elim, arith}
 use Rattle.std.proofs.lemmas.Bool.{cases_eq, cases_lt, cases_Bool}
 use Rattle.labels.specs.Sizes.{heavy, is_heavy, light_size}
 use Rattle.labels.specs.Paths.{top, place, heavy_path}
@@ -48,6 +48,18 @@ module _ (up row : List ℕ) (r : Rooted up) (H : HeavyRow up row) (even : lengt
       (λ ne. let x = heavy_some_at up row r H even (at up t) (omega arith) ne in cc)
       (cases_eq (at row (at up t)) 0)
 
+  -- a node that is no heavy child begins a path
+  pub begins : (t : ℕ) → t < length up → ((1 ≤ t) × (at row (at up t) ≡ t) → ⊥) → top (parents_in up) (length up) t ≡ t
+  begins t l light =
+      ⊎_elim
+      (λ z. (top_none (tree up r) t (rw z (tree up r).root)).0)
+      (λ nz. let pos : 1 ≤ t = omega arith in
+      ⊎_elim
+      (λ y. absurd (light (pos, sure t pos l y)))
+      (λ y. (top_light (tree up r) t (at up t) (parent_is up t pos l) y).0)
+      (cases_Bool (is_heavy (parents_in up) (length up) (at up t) t)))
+      (cases_eq t 0)
+
 module _ (up row light : List ℕ) (r : Rooted up) (H : HeavyRow up row) (even : length row ≡ length up) (L : LightRow up light) where
   weights : (t : ℕ) → t < length up
       → map (at light) (chain row t) ≡ path_weights (parents_in up) (length up) t
@@ -59,17 +71,6 @@ module _ (up row light : List ℕ) (r : Rooted up) (H : HeavyRow up row) (even :
 
   pub path_fine : (t : ℕ) → t < length up → Weights (map (at light) (chain row t))
   path_fine t l = subst Weights (sym (weights t l)) ((accepted (tree up r)).paths.accepted t l)
-
-  -- a node that has no parent, or is not its heavy child, begins a path
-  pub begins : (t : ℕ) → t < length up → (t ≡ 0) ⊎ ((1 ≤ t) × (at row (at up t) ≡ t → ⊥)) → top (parents_in up) (length up) t ≡ t
-  begins t l = ⊎_elim
-      (λ z. (top_none (tree up r) t (rw z (tree up r).root)).0)
-      (λ h. let p = parent_is up t h.0 l in
-      let b = r.below t h.0 l in
-      ⊎_elim
-      (λ y. absurd (h.1 (sure up row r H even t h.0 l y)))
-      (λ y. (top_light (tree up r) t (at up t) p y).0)
-      (cases_Bool (is_heavy (parents_in up) (length up) (at up t) t)))
 
   module _ (f : List ℕ → ℕ → Word) (t : ℕ) (l : t < length up) where
     pub path_skip : (a b c : List ℕ) → 1 ≤ t → at row (at up t) ≡ t → PathTo f up t a b c → PathTo f up (t + 1) a b c

@@ -1,5 +1,5 @@
 -- The tree that a row of parents is, and what stands on a path.
-use Rattle.std.proofs.Common.{◌≡◌, ℕ, zero, suc, ◌+◌, ◌<◌, ◌≤◌, List, [], ◌∷◌, map, length, Some, None, Option, sym, refl, ap, ◌∙◌, ap₂, inl, inr, ⊎_elim, arith}
+use Rattle.std.proofs.Common.{◌≡◌, ℕ, zero, suc, ◌+◌, ◌<◌, ◌≤◌, List, [], ◌∷◌, map, length, Some, None, Option, sym, refl, ap, ◌∙◌, ap₂, ⊎_elim, arith}
 use Rattle.std.proofs.lemmas.Bool.{cases_eq, eq-eqb, ne_eqb, lt-ltb, le-ltb}
 use Rattle.trees.specs.Tree.{Tree}
 use Rattle.trees.specs.Above.{opt}
@@ -86,8 +86,7 @@ module _ (up row : List ℕ) (r : Rooted up) (H : HeavyRow up row) (even : lengt
   heavy_up v l ne = child (tree up r) (at row v) v (heavy_child (tree up r) v (at row v) (heavy_some_at v l ne))
 
   pub heavy_rising : Rising row
-  heavy_rising c l =
-      ⊎_elim (λ z. inl z) (λ ne. let u = heavy_up c (omega arith) ne in inr (u.0, omega (arith, u.1))) (cases_eq (at row c) 0)
+  heavy_rising c l ne = let u = heavy_up c (omega arith) ne in (u.0, omega (arith, u.1))
 
   run_path : (k c : ℕ) → c < length up → run k row c ≡ path_from (parents_in up) (length up) k c
   unfolding run path_from

@@ -1,4 +1,2 @@
 pub mod Chains
 pub mod Rows
-pub mod Even
-pub mod Marked

@@ -7,7 +7,7 @@ use Rattle.formats.specs.Label.{Label, body_in}
 use Rattle.labels.specs.Sizes.{size, heavy, is_light, light_children, light_size}
 use Rattle.labels.specs.Paths.{top}
 use Rattle.labels.specs.Labels.{path_word, branch_word, label}
-use Rattle.rows.specs.Chains.{at, chain, Held}
+use Rattle.rows.specs.Chains.{at, link, chain, Held}
 
 -- the parents that a row holds: what stands at 0 is not looked at
 unfoldable pub parents_in : List ℕ → ℕ → Option ℕ
@@ -18,10 +18,6 @@ pub record Rooted (up : List ℕ) : Type 0 where
   pub any : 1 ≤ length up
   pub few : length up ≤ most_nodes
   pub below : (v : ℕ) → 1 ≤ v → v < length up → at up v < v
-
--- 0 in a row of links is none
-abbrev pub link : ℕ → Option ℕ
-link x = cond (x == 0) None (Some x)
 
 -- each node's size, heavy child, light size, path top, depth
 abbrev pub SizeRow : List ℕ → List ℕ → Type 0

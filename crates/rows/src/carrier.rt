@@ -1,11 +1,12 @@
 // The twelve rows of the work memory.
-ghost use Rattle.std.specs.Prelude.{◌*◌, ◌≤◌, length};
-ghost use Rattle.rows.specs.Even.{Even};
+ghost use Rattle.std.specs.Prelude.{◌≡◌, ◌*◌, ◌≤◌, length};
+
+use codes::rows::WordRows;
 
 // How many rows there are.
 pub const ROWS: usize = 12;
 
-// Each row by what it holds first.
+// Rows of one length, each by what it holds first.
 #[derive(Drop)]
 pub struct Rows<'a> {
     pub parent: &'a mut [u16],
@@ -14,43 +15,56 @@ pub struct Rows<'a> {
     pub light: &'a mut [u16],
     pub next: &'a mut [u16],
     pub list: &'a mut [u16],
-    pub path_high: &'a mut [u16],
-    pub path_low: &'a mut [u16],
-    pub path_len: &'a mut [u16],
-    pub branch_high: &'a mut [u16],
-    pub branch_low: &'a mut [u16],
-    pub branch_len: &'a mut [u16],
+    pub path: WordRows<'a>,
+    pub branch: WordRows<'a>,
+    pub ghost sizes: { length size.now ≡ length parent.now },
+    pub ghost heavies: { length heavy.now ≡ length parent.now },
+    pub ghost lights: { length light.now ≡ length parent.now },
+    pub ghost nexts: { length next.now ≡ length parent.now },
+    pub ghost lists: { length list.now ≡ length parent.now },
+    pub ghost phs: { length path.high.now ≡ length parent.now },
+    pub ghost pls: { length path.low.now ≡ length parent.now },
+    pub ghost pns: { length path.len.now ≡ length parent.now },
+    pub ghost bhs: { length branch.high.now ≡ length parent.now },
+    pub ghost bls: { length branch.low.now ≡ length parent.now },
+    pub ghost bns: { length branch.len.now ≡ length parent.now },
 }
 
-// Takes twelve rows of n numbers from the front of the memory.
-pub fn split_rows<'a>(work: &'a mut [u16], n: usize) -> Rows<'a>
-    requires { 12 * n ≤ length work.old }
-    ensures { Even n result }
-{
-    let (parent, work) = work.split_at_mut(n);
-    let (size, work) = work.split_at_mut(n);
-    let (heavy, work) = work.split_at_mut(n);
-    let (light, work) = work.split_at_mut(n);
-    let (next, work) = work.split_at_mut(n);
-    let (list, work) = work.split_at_mut(n);
-    let (path_high, work) = work.split_at_mut(n);
-    let (path_low, work) = work.split_at_mut(n);
-    let (path_len, work) = work.split_at_mut(n);
-    let (branch_high, work) = work.split_at_mut(n);
-    let (branch_low, work) = work.split_at_mut(n);
-    let (branch_len, _) = work.split_at_mut(n);
-    Rows {
-        parent,
-        size,
-        heavy,
-        light,
-        next,
-        list,
-        path_high,
-        path_low,
-        path_len,
-        branch_high,
-        branch_low,
-        branch_len,
+impl<'a> Rows<'a> {
+    // Takes twelve rows of n numbers from the front of the memory.
+    pub fn split(work: &'a mut [u16], n: usize) -> Rows<'a>
+        requires { 12 * n ≤ length work.old }
+        ensures { length result.parent.now ≡ n }
+    {
+        let (parent, work) = work.split_at_mut(n);
+        let (size, work) = work.split_at_mut(n);
+        let (heavy, work) = work.split_at_mut(n);
+        let (light, work) = work.split_at_mut(n);
+        let (next, work) = work.split_at_mut(n);
+        let (list, work) = work.split_at_mut(n);
+        let (path_high, work) = work.split_at_mut(n);
+        let (path_low, work) = work.split_at_mut(n);
+        let (path_len, work) = work.split_at_mut(n);
+        let (branch_high, work) = work.split_at_mut(n);
+        let (branch_low, work) = work.split_at_mut(n);
+        let (branch_len, _) = work.split_at_mut(n);
+        Rows {
+            parent,
+            size,
+            heavy,
+            light,
+            next,
+            list,
+            path: WordRows {
+                high: path_high,
+                low: path_low,
+                len: path_len,
+            },
+            branch: WordRows {
+                high: branch_high,
+                low: branch_low,
+                len: branch_len,
+            },
+        }
     }
 }

@@ -1,68 +1,104 @@
 // Words of a list of weights that stand at the nodes of a chain of links.
-ghost use Rattle.std.specs.Prelude.{◌≡◌, ◌<◌, ◌≤◌, map, length, take};
+ghost use Rattle.std.specs.Prelude.{◌≡◌, ℕ, ◌<◌, ◌≤◌, List, map, length, take, IfSome};
+ghost use Rattle.std.specs.Iterator.{YieldsFirst, item_count};
 ghost use Rattle.codes.specs.Weighing.{Weights};
-ghost use Rattle.rows.specs.Chains.{Rising, Stored, at, chain};
+ghost use Rattle.rows.specs.Chains.{Rising, Stored, Wide, at, link, chain, ahead};
 
 use codes::code::Code;
 use codes::item::Item;
+use codes::rows::WordRows;
+use std::marker::Model;
 
-// The value of a word goes into two rows, as its high and its low 16 bits.
-pub const HALF_RANGE: u32 = 65536;
-
-// Puts the weights of the nodes along the links into a list, and tells how many there are.
-fn list_weights(next: &[u16], weight: &[u16], from: usize, list: &mut [u16]) -> usize
-    requires rising { Rising next.now }
-    requires inside { from < length next.now }
-    requires weighed { length weight.now ≡ length next.now }
-    requires room { length list.old ≡ length next.now }
-    ensures count { result ≤ length list.new }
-    ensures listed { take result list.new ≡ map (at weight.now) (chain next.now from) }
+// The node that a number in a row of links stands for: 0 is none.
+pub fn link(number: u16) -> Option<usize>
+    ensures { result ≡ link number }
 {
-    let mut c = from;
-    let mut k = 0;
-    loop {
-        list[k] = weight[c];
-        k += 1;
-        let d = next[c] as usize;
-        if d == 0 {
-            return k;
-        }
-        c = d;
+    match number {
+        0 => None,
+        node => Some(node as usize),
     }
 }
 
-// Stores the words of a list at the nodes along the links.
-fn put_words<C: Code>(
-    code: &C,
-    next: &[u16],
-    from: usize,
-    list: &[u16],
-    high: &mut [u16],
-    low: &mut [u16],
-    len: &mut [u16],
-)
-    requires rising { Rising next.now }
-    requires inside { from < length next.now }
-    requires highs { length high.old ≡ length next.now }
-    requires lows { length low.old ≡ length next.now }
-    requires lens { length len.old ≡ length next.now }
-    requires fine { Weights list.now }
-    requires many { length list.now ≡ length (chain next.now from) }
-    ensures { Stored (C.words code.now list.now) (chain next.now from) high.old low.old len.old high.new low.new len.new }
+// The nodes along links that rise, from one on.
+#[derive(Drop)]
+pub struct Links<'a> {
+    next: &'a [u16],
+    at: Option<usize>,
+}
+
+impl<'a> Model for Links<'a> {
+    ghost Value = { List ℕ };
+
+    ghost view = { λ l. ahead l.next.now l.at };
+
+    ghost invariant = { λ l. Rising l.next.now × IfSome l.at (λ c. c < length l.next.now) };
+}
+
+impl<'a> Links<'a> {
+    pub fn along(next: &'a [u16], from: usize) -> Links<'a>
+        requires rising { Rising next.now }
+        requires inside { from < length next.now }
+        ensures { result ≡ chain next.now from }
+    {
+        Links {
+            next,
+            at: Some(from),
+        }
+    }
+}
+
+impl<'a> Iterator for Links<'a> {
+    type Item = usize;
+
+    ghost next_gives = { YieldsFirst (λ l. l) };
+
+    ghost remaining = { item_count (λ l. l) };
+
+    fn next(&mut self) -> Option<usize> {
+        let c = self.at?;
+        self.at = link(self.next[c]);
+        Some(c)
+    }
+}
+
+// Links that rise, with a weight at each node.
+#[derive(Clone, Copy)]
+pub struct Chains<'a> {
+    pub next: &'a [u16],
+    pub weight: &'a [u16],
+    ghost rising: { Rising next.now },
+    ghost weighed: { length weight.now ≡ length next.now },
+}
+
+// Puts the weights of the nodes along the links into a list, and tells how many there are.
+fn list_weights(chains: &Chains, from: usize, list: &mut [u16]) -> usize
+    requires inside { from < length chains.now.next.now }
+    requires room { length list.old ≡ length chains.now.next.now }
+    ensures count { result ≤ length list.new }
+    ensures listed { take result list.new ≡ map (at chains.now.weight.now) (chain chains.now.next.now from) }
 {
-    let mut c = from;
+    let mut many = 0;
+    for c in Links::along(chains.next, from) {
+        list[many] = chains.weight[c];
+        many += 1;
+    }
+    many
+}
+
+// Stores the words of a list at the nodes along the links.
+fn put_words<C: Code>(code: &C, chains: &Chains, from: usize, list: &[u16], words: &mut WordRows)
+    requires inside { from < length chains.now.next.now }
+    requires wide { Wide (length chains.now.next.now) words.old.high.now words.old.low.now words.old.len.now }
+    requires fine { Weights list.now }
+    requires many { length list.now ≡ length (chain chains.now.next.now from) }
+    ensures stored { Stored (C.words code.now list.now) (chain chains.now.next.now from) words.old.high.now words.old.low.now words.old.len.now words.new.high.now words.new.low.now words.new.len.now }
+    ensures wide { Wide (length chains.now.next.now) words.new.high.now words.new.low.now words.new.len.now }
+{
     let mut item = Item::at(list, 0);
-    loop {
+    for c in Links::along(chains.next, from) {
         // The list is accepted, so each of its items has a word.
         let word = code.word(&item).unwrap();
-        high[c] = (word.value / HALF_RANGE) as u16;
-        low[c] = (word.value % HALF_RANGE) as u16;
-        len[c] = word.len as u16;
-        let d = next[c] as usize;
-        if d == 0 {
-            return;
-        }
-        c = d;
+        words.put(c, word);
         item = item.next();
     }
 }
@@ -70,24 +106,18 @@ fn put_words<C: Code>(
 // Stores at each node along the links the word of its weight among theirs.
 pub fn code_chain<C: Code>(
     code: &C,
-    next: &[u16],
-    weight: &[u16],
+    chains: &Chains,
     from: usize,
     list: &mut [u16],
-    high: &mut [u16],
-    low: &mut [u16],
-    len: &mut [u16],
+    words: &mut WordRows,
 )
-    requires rising { Rising next.now }
-    requires inside { from < length next.now }
-    requires weighed { length weight.now ≡ length next.now }
-    requires room { length list.old ≡ length next.now }
-    requires highs { length high.old ≡ length next.now }
-    requires lows { length low.old ≡ length next.now }
-    requires lens { length len.old ≡ length next.now }
-    requires fine { Weights (map (at weight.now) (chain next.now from)) }
-    ensures { Stored (C.words code.now (map (at weight.now) (chain next.now from))) (chain next.now from) high.old low.old len.old high.new low.new len.new }
+    requires inside { from < length chains.now.next.now }
+    requires room { length list.old ≡ length chains.now.next.now }
+    requires wide { Wide (length chains.now.next.now) words.old.high.now words.old.low.now words.old.len.now }
+    requires fine { Weights (map (at chains.now.weight.now) (chain chains.now.next.now from)) }
+    ensures stored { Stored (C.words code.now (map (at chains.now.weight.now) (chain chains.now.next.now from))) (chain chains.now.next.now from) words.old.high.now words.old.low.now words.old.len.now words.new.high.now words.new.low.now words.new.len.now }
+    ensures wide { Wide (length chains.now.next.now) words.new.high.now words.new.low.now words.new.len.now }
 {
-    let k = list_weights(next, weight, from, list);
-    put_words(code, next, from, &list[..k], high, low, len);
+    let many = list_weights(chains, from, list);
+    put_words(code, chains, from, &list[..many], words);
 }

@@ -4,13 +4,23 @@ ghost use Rattle.rows.specs.Rows.{PathRows, BranchRows, TopRow, DepthRow, BitsRo
 
 use crate::parents::Parents;
 use codes::code::Code;
+use codes::rows::WordRows;
 
-// Rows that hold words, one at each place: the high and the low 16 bits of its value, and its length.
+// The words of a tree under a code: the path word of each node, and the branch word of each light child.
 #[derive(Drop)]
-pub struct WordRows<'a> {
-    pub high: &'a mut [u16],
-    pub low: &'a mut [u16],
-    pub len: &'a mut [u16],
+pub struct TreeWords<'a, C: Code> {
+    pub code: &'a C,
+    pub up: Parents<'a>,
+    pub path: WordRows<'a>,
+    pub branch: WordRows<'a>,
+    pub ghost phs: { length path.high.now ≡ length up.row.now },
+    pub ghost pls: { length path.low.now ≡ length up.row.now },
+    pub ghost pns: { length path.len.now ≡ length up.row.now },
+    pub ghost bhs: { length branch.high.now ≡ length up.row.now },
+    pub ghost bls: { length branch.low.now ≡ length up.row.now },
+    pub ghost bns: { length branch.len.now ≡ length up.row.now },
+    pub ghost paths: { PathRows (C.words code.now) up.row.now path.high.now path.low.now path.len.now },
+    pub ghost branches: { BranchRows (C.words code.now) up.row.now branch.high.now branch.low.now branch.len.now },
 }
 
 // The rows that tags are written from, under a code: each has one number for each node of the tree, and holds what its name says.

@@ -1,50 +1,78 @@
 // Sizes, heavy children and light sizes.
-ghost use Rattle.std.specs.Prelude.{◌≡◌, length};
-ghost use Rattle.rows.specs.Rows.{Rooted, SizeRow, HeavyRow, LightRow};
+ghost use Rattle.std.specs.Prelude.{◌≡◌, ◌≤◌, ◌<◌, length};
+ghost use Rattle.codes.specs.Weighing.{Exactly};
+ghost use Rattle.rows.specs.Chains.{at};
+ghost use Rattle.rows.specs.Rows.{SizeRow, HeavyRow, LightRow};
+
+use crate::chains::link;
+use crate::parents::Parents;
+
+// A tree, and rows of the size and the heavy child of each node.
+#[derive(Clone, Copy)]
+pub struct Grown<'a> {
+    pub up: Parents<'a>,
+    pub size: &'a [u16],
+    pub heavy: &'a [u16],
+    pub ghost sizes: { length size.now ≡ length up.row.now },
+    pub ghost heavies: { length heavy.now ≡ length up.row.now },
+    pub ghost sized: { SizeRow up.row.now size.now },
+    pub ghost chosen: { HeavyRow up.row.now heavy.now },
+}
+
+impl Grown<'_> {
+    // Whether a node is the heavy child of its parent; the root is not.
+    pub fn is_heavy(&self, v: usize) -> bool
+        requires { v < length self.now.up.row.now }
+        ensures { Exactly result ((1 ≤ v) × (at self.now.heavy.now (at self.now.up.row.now v) ≡ v)) }
+    {
+        v != 0 && self.heavy[self.up.row[v] as usize] as usize == v
+    }
+}
 
 // The size of each node: itself and all below it.
-pub fn sizes(up: &[u16], size: &mut [u16])
-    requires rooted { Rooted up.now }
-    requires room { length size.old ≡ length up.now }
-    ensures { SizeRow up.now size.new }
+pub fn sizes(up: &Parents, size: &mut [u16])
+    requires { length size.old ≡ length up.now.row.now }
+    ensures { SizeRow up.now.row.now size.new }
 {
     size.fill(1);
-    for v in (1..up.len()).rev() {
-        let p = up[v] as usize;
+    // By index, since each turn writes at another place than its own.
+    for v in (1..up.row.len()).rev() {
+        let p = up.row[v] as usize;
         size[p] += size[v];
     }
 }
 
 // The heavy child of each node, or 0 at a leaf.
-pub fn heavies(up: &[u16], size: &[u16], heavy: &mut [u16])
-    requires rooted { Rooted up.now }
-    requires sizes { length size.now ≡ length up.now }
-    requires room { length heavy.old ≡ length up.now }
-    requires sized { SizeRow up.now size.now }
-    ensures { HeavyRow up.now heavy.new }
+pub fn heavies(up: &Parents, size: &[u16], heavy: &mut [u16])
+    requires sizes { length size.now ≡ length up.now.row.now }
+    requires room { length heavy.old ≡ length up.now.row.now }
+    requires sized { SizeRow up.now.row.now size.now }
+    ensures { HeavyRow up.now.row.now heavy.new }
 {
     heavy.fill(0);
-    for v in 1..up.len() {
-        let p = up[v] as usize;
-        let h = heavy[p] as usize;
-        if h == 0 || size[h] < size[v] {
+    // By index, since each turn writes at another place than its own.
+    for v in 1..up.row.len() {
+        let p = up.row[v] as usize;
+        let is_heavier = match link(heavy[p]) {
+            None => true,
+            Some(h) => size[h] < size[v],
+        };
+        if is_heavier {
             heavy[p] = v as u16;
         }
     }
 }
 
 // The light size of each node.
-pub fn lights(up: &[u16], size: &[u16], heavy: &[u16], light: &mut [u16])
-    requires rooted { Rooted up.now }
-    requires sizes { length size.now ≡ length up.now }
-    requires heavies { length heavy.now ≡ length up.now }
-    requires room { length light.old ≡ length up.now }
-    requires sized { SizeRow up.now size.now }
-    requires chosen { HeavyRow up.now heavy.now }
-    ensures { LightRow up.now light.new }
+pub fn lights(grown: &Grown, light: &mut [u16])
+    requires { length light.old ≡ length grown.now.up.row.now }
+    ensures { LightRow grown.now.up.row.now light.new }
 {
-    for v in 0..up.len() {
-        let h = heavy[v] as usize;
-        light[v] = if h == 0 { size[v] } else { size[v] - size[h] };
+    for (v, place) in light.iter_mut().enumerate() {
+        let size = grown.size[v];
+        *place = match link(grown.heavy[v]) {
+            None => size,
+            Some(h) => size - grown.size[h],
+        };
     }
 }

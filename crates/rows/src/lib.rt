@@ -3,7 +3,7 @@
 #![tactic(auto)]
 
 pub mod carrier;
-mod chains;
+pub mod chains;
 pub mod filling;
 pub mod finished;
 mod growth;

@@ -1,22 +1,20 @@
 // The rows that tags are written from: path top, depth, body bits and field count.
 ghost use Rattle.std.specs.Prelude.{◌≡◌, length};
-ghost use Rattle.rows.specs.Rows.{Rooted, HeavyRow, PathRows, BranchRows, TopRow, DepthRow, BitsRow, FieldsRow};
+ghost use Rattle.rows.specs.Rows.{TopRow, DepthRow, BitsRow, FieldsRow};
 
+use crate::finished::TreeWords;
+use crate::growth::Grown;
+use crate::parents::Parents;
 use codes::code::Code;
 
 // The first node of each node's path.
-pub fn tops(up: &[u16], heavy: &[u16], top: &mut [u16])
-    requires rooted { Rooted up.now }
-    requires heavies { length heavy.now ≡ length up.now }
-    requires room { length top.old ≡ length up.now }
-    requires chosen { HeavyRow up.now heavy.now }
-    ensures { TopRow up.now top.new }
+pub fn tops(grown: &Grown, top: &mut [u16])
+    requires { length top.old ≡ length grown.now.up.row.now }
+    ensures { TopRow grown.now.up.row.now top.new }
 {
-    top[0] = 0;
-    for v in 1..up.len() {
-        let p = up[v] as usize;
-        top[v] = if heavy[p] as usize == v {
-            top[p]
+    for (v, p) in grown.up.row.iter().enumerate() {
+        top[v] = if grown.is_heavy(v) {
+            top[*p as usize]
         } else {
             v as u16
         };
@@ -24,51 +22,32 @@ pub fn tops(up: &[u16], heavy: &[u16], top: &mut [u16])
 }
 
 // The depth of each node.
-pub fn depths(up: &[u16], depth: &mut [u16])
-    requires rooted { Rooted up.now }
-    requires room { length depth.old ≡ length up.now }
-    ensures { DepthRow up.now depth.new }
+pub fn depths(up: &Parents, depth: &mut [u16])
+    requires { length depth.old ≡ length up.now.row.now }
+    ensures { DepthRow up.now.row.now depth.new }
 {
-    depth[0] = 0;
-    for v in 1..up.len() {
-        depth[v] = depth[up[v] as usize] + 1;
+    for (v, p) in up.row.iter().enumerate() {
+        depth[v] = if v == 0 { 0 } else { depth[*p as usize] + 1 };
     }
 }
 
-// How many bits and how many fields each node's label has; the code is named in the contract only.
-pub fn counts<C: Code>(
-    code: &C,
-    up: &[u16],
-    top: &[u16],
-    path_high: &[u16],
-    path_low: &[u16],
-    path_len: &[u16],
-    branch_high: &[u16],
-    branch_low: &[u16],
-    branch_len: &[u16],
-    bits: &mut [u16],
-    fields: &mut [u16],
-)
-    requires rooted { Rooted up.now }
-    requires tops { length top.now ≡ length up.now }
-    requires plens { length path_len.now ≡ length up.now }
-    requires blens { length branch_len.now ≡ length up.now }
-    requires room { length bits.old ≡ length up.now }
-    requires room2 { length fields.old ≡ length up.now }
-    requires topped { TopRow up.now top.now }
-    requires paths { PathRows (C.words code.now) up.now path_high.now path_low.now path_len.now }
-    requires branches { BranchRows (C.words code.now) up.now branch_high.now branch_low.now branch_len.now }
-    ensures counted { BitsRow (C.words code.now) up.now bits.new }
-    ensures numbered { FieldsRow (C.words code.now) up.now fields.new }
+// How many bits and how many fields each node's label has.
+pub fn counts<C: Code>(words: &TreeWords<C>, top: &[u16], bits: &mut [u16], fields: &mut [u16])
+    requires tops { length top.now ≡ length words.now.up.row.now }
+    requires topped { TopRow words.now.up.row.now top.now }
+    requires bitses { length bits.old ≡ length words.now.up.row.now }
+    requires fieldses { length fields.old ≡ length words.now.up.row.now }
+    ensures counted { BitsRow (C.words words.now.code.now) words.now.up.row.now bits.new }
+    ensures numbered { FieldsRow (C.words words.now.code.now) words.now.up.row.now fields.new }
 {
-    for v in 0..up.len() {
-        let t = top[v] as usize;
+    for (v, t) in top.iter().enumerate() {
+        let t = *t as usize;
         if t == 0 {
-            bits[v] = path_len[v];
+            bits[v] = words.path.len[v];
             fields[v] = 1;
         } else {
-            let p = up[t] as usize;
-            bits[v] = bits[p] + branch_len[t] + path_len[v];
+            let p = words.up.row[t] as usize;
+            bits[v] = bits[p] + words.branch.len[t] + words.path.len[v];
             fields[v] = fields[p] + 2;
         }
     }

@@ -11,15 +11,16 @@ pub struct Parents<'a> {
     pub ghost rooted: { Rooted row.now },
 }
 
-// Asks the host once for the parent of each node but the root, and stores it at the node's place.
-pub fn gather<H: Host>(host: &H, up: &mut [u16])
-    requires tree { H.verdicts host.now ≡ Ok (length up.old) }
-    ensures rooted { Rooted up.new }
-    ensures held { parents_in up.new ≡ H.parents host.now }
+// Asks the host once for the parent of each node, and stores it at the node's place; the root has none, and its place stays.
+pub fn gather<'a, H: Host>(host: &H, row: &'a mut [u16]) -> Parents<'a>
+    requires tree { H.verdicts host.now ≡ Ok (length row.old) }
+    ensures many { length result.row.now ≡ length row.old }
+    ensures held { parents_in result.row.now ≡ H.parents host.now }
 {
-    for v in 1..up.len() {
-        // Each node but the root has a parent.
-        let p = host.parent(v as u16).unwrap();
-        up[v] = p;
+    for (v, place) in row.iter_mut().enumerate() {
+        if let Some(p) = host.parent(v as u16) {
+            *place = p;
+        }
     }
+    Parents { row }
 }

@@ -1,13 +1,30 @@
-use Rattle.std.proofs.Common.{arith, rules}
-use Rattle.rows.proofs.Runs.{gather_on, gather_end}
+use Rattle.std.proofs.Common.{◌<◌, length, ◌∙◌, arith, rules}
+use Rattle.rows.proofs.Runs.{turn, chain_short, gather_on, gather_end}
 use Rattle.rows.proofs.chains.list_weights.Goals as goal
 
-pub returns-then-d-eq0 : goal.returns-then-d-eq0
-returns-then-d-eq0 c = record {
-  count = search rules;
-  listed = gather_end c.args.next.now c.args.weight.now c.requires.rising c.args.from c.loop-from.list c.loop-from.c c.loop-from.k c.loop-from.invariant (omega arith) c.if-d-eq0.true;
-}
+pub offset_bounds-chains-c : goal.offset_bounds-chains-c
+offset_bounds-chains-c c =
+    let t = turn c.args.chains.now.next.now c.args.chains.now.rising c.args.from c.loop-c.many c.in-Some.c c.next.new.self c.requires.inside (c.loop-c.invariant.gathered.ahead ∙ c.in-Some.ensures.steps) in
+    let h : c.in-Some.c < length c.args.chains.now.weight.now = omega (arith, t.inside, c.args.chains.now.weighed) in
+    search rules
 
-pub loop-from-preserved : goal.loop-from-preserved
-loop-from-preserved c =
-    gather_on c.args.next.now c.args.weight.now c.requires.rising c.args.from c.loop-from.list c.loop-from.c c.loop-from.k c.loop-from.invariant (omega arith) c.if-d-eq0.false
+pub bounds-chains-c : goal.bounds-chains-c
+bounds-chains-c c =
+    let t = turn c.args.chains.now.next.now c.args.chains.now.rising c.args.from c.loop-c.many c.in-Some.c c.next.new.self c.requires.inside (c.loop-c.invariant.gathered.ahead ∙ c.in-Some.ensures.steps) in
+    omega (arith, t.inside, c.args.chains.now.weighed)
+
+pub bounds-list-many : goal.bounds-list-many
+bounds-list-many c =
+    let t = turn c.args.chains.now.next.now c.args.chains.now.rising c.args.from c.loop-c.many c.in-Some.c c.next.new.self c.requires.inside (c.loop-c.invariant.gathered.ahead ∙ c.in-Some.ensures.steps) in
+    omega (arith, t.short)
+
+pub loop-c-preserved : goal.loop-c-preserved
+loop-c-preserved c =
+    let t = turn c.args.chains.now.next.now c.args.chains.now.rising c.args.from c.loop-c.many c.in-Some.c c.next.new.self c.requires.inside (c.loop-c.invariant.gathered.ahead ∙ c.in-Some.ensures.steps) in
+    record { can = tt; ends = tt; gathered = gather_on c.in-Some.c (omega (arith, t.short)) c.in-Some.ensures.steps c.loop-c.invariant.gathered }
+
+pub returns : goal.returns
+returns c =
+    let g = c.loop-c.invariant.gathered in
+    let s = chain_short c.args.chains.now.next.now c.args.chains.now.rising c.args.from c.requires.inside in
+    record { count = omega (arith, g.within, s); listed = gather_end c.in-None.ensures.steps.0 g }

@@ -1,9 +1,11 @@
-use Rattle.std.proofs.Common.{◌-◌, length}
+use Rattle.rows.specs.Chains.{chain}
 use Rattle.rows.proofs.Runs.{Gathered}
 use Rattle.rows.proofs.chains.list_weights.Given as goal
 
-abbrev pub invariant-loop-from : goal.invariant-loop-from
-invariant-loop-from l = Gathered l.next l.weight l.from l.list l.c l.k
-
-abbrev pub decreases-loop-from : goal.decreases-loop-from
-decreases-loop-from l = length l.next - l.c
+abbrev pub invariant-loop-c : goal.invariant-loop-c
+invariant-loop-c l =
+    record {
+      can : (goal.iterator-loop-c).can_next l.c-iterator;
+      ends : (goal.iterator-loop-c).is_finite l.c-iterator;
+      gathered : Gathered l.chains.weight.now (chain l.chains.next.now l.from) l.list l.c-iterator l.many;
+    }

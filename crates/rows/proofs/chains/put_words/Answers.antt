@@ -1,38 +1,41 @@
-use Rattle.std.proofs.Common.{◌<◌, length, is_ok, sym, refl, ap, ◌∙◌, arith}
+use Rattle.std.proofs.Common.{◌≡◌, ◌+◌, ◌<◌, length, is_ok, sym, refl, ap, ◌∙◌, arith, rules}
 use Rattle.codes.proofs.Accepting.{accepts_yes, next_more}
 use Rattle.codes.proofs.Answering.{answer_yes, answer_moved, own_word}
-use Rattle.rows.proofs.Walks.{walk_in, walk_on, walk_end}
+use Rattle.rows.specs.Chains.{chain}
+use Rattle.rows.proofs.Runs.{turn, left_none}
+use Rattle.rows.proofs.Walks.{walk_on, walk_end}
 use Rattle.rows.proofs.chains.put_words.Goals as goal
 
 pub unwrap-word-requires : goal.unwrap-word-requires
 unwrap-word-requires g c =
-    let t = c.loop-item.item in
     let ws = c.args.list.now in
     let f = g.C.Code.words c.args.code.now in
-    let W = c.loop-item.invariant.1 in
-    let l : t.index < length ws = omega (arith, walk_in (f ws) c.args.next.now c.requires.rising c.args.from c.args.high.now c.args.low.now c.args.len.now c.loop-item.c t.index c.loop-item.high c.loop-item.low c.loop-item.len W, c.requires.many) in
-    ap is_ok (answer_moved f c.word.result c.word.ensures.told c.loop-item.invariant.0 refl ∙ sym (answer_yes f ws t.index (f ws t.index) (sym (accepts_yes ws t.index c.requires.fine l)) refl))
+    let t = turn c.args.chains.now.next.now c.args.chains.now.rising c.args.from c.loop-c.item.index c.in-Some.c c.next.new.self c.requires.inside (c.loop-c.invariant.ahead ∙ c.in-Some.ensures.steps) in
+    let i = c.loop-c.item.index in
+    let l : c.loop-c.item.index < length c.args.list.now = omega (arith, t.within, c.requires.many) in
+    ap is_ok (answer_moved f c.word.result c.word.ensures.told c.loop-c.invariant.same_list refl ∙ sym (answer_yes f ws i (f ws i) (sym (accepts_yes ws i c.requires.fine l)) refl))
 
-pub returns-then-d-eq0 : goal.returns-then-d-eq0
-returns-then-d-eq0 g c =
-    let t = c.loop-item.item in
-    let ws = c.args.list.now in
+pub loop-c-preserved : goal.loop-c-preserved
+loop-c-preserved g c =
     let f = g.C.Code.words c.args.code.now in
-    let W = c.loop-item.invariant.1 in
-    let e = own_word f c.word.result c.unwrap-word.result c.unwrap-word.ensures c.word.ensures.told c.loop-item.invariant.0 refl in
-    walk_end (f ws) c.args.next.now c.requires.rising c.args.from c.args.high.now c.args.low.now c.args.len.now c.loop-item.c t.index c.loop-item.high c.loop-item.low c.loop-item.len W
-    c.unwrap-word.result e (omega arith) (omega arith) (omega arith) c.if-d-eq0.true
+    let w = c.loop-c.invariant.wide in
+    let t = turn c.args.chains.now.next.now c.args.chains.now.rising c.args.from c.loop-c.item.index c.in-Some.c c.next.new.self c.requires.inside (c.loop-c.invariant.ahead ∙ c.in-Some.ensures.steps) in
+    let e = own_word f c.word.result c.unwrap-word.result c.unwrap-word.ensures c.word.ensures.told c.loop-c.invariant.same_list refl in
+    let l : c.loop-c.item.index < length c.args.list.now = omega (arith, t.within, c.requires.many) in
+    let i : c.next-item.result.index ≡ c.loop-c.item.index + 1 = next_more c.next-item.result.index c.next-item.ensures.place c.loop-c.invariant.same_list refl l in
+    record {
+      can = tt;
+      ends = tt;
+      same_list = c.next-item.ensures.list ∙ c.loop-c.invariant.same_list;
+      ahead = rw i t.later;
+      wide = search rules;
+      walk =
+          rw (c.put.ensures.high, c.put.ensures.low, c.put.ensures.len, i)
+          (walk_on (f c.args.list.now) (chain c.args.chains.now.next.now c.args.from) c.args.words.now.high.now c.args.words.now.low.now c.args.words.now.len.now c.in-Some.c c.loop-c.item.index
+          c.loop-c.words.high.now c.loop-c.words.low.now c.loop-c.words.len.now c.loop-c.invariant.walk t.within t.here t.behind c.unwrap-word.result e (omega arith) (omega arith) (omega arith));
+    }
 
-pub loop-item-preserved : goal.loop-item-preserved
-loop-item-preserved g c =
-    let t = c.loop-item.item in
-    let ws = c.args.list.now in
-    let f = g.C.Code.words c.args.code.now in
-    let W = c.loop-item.invariant.1 in
-    let e = own_word f c.word.result c.unwrap-word.result c.unwrap-word.ensures c.word.ensures.told c.loop-item.invariant.0 refl in
-    let l : t.index < length ws = omega (arith, walk_in (f ws) c.args.next.now c.requires.rising c.args.from c.args.high.now c.args.low.now c.args.len.now c.loop-item.c t.index c.loop-item.high c.loop-item.low c.loop-item.len W, c.requires.many) in
-    let i = next_more c.next-item.result.index c.next-item.ensures.place c.loop-item.invariant.0 refl l in (
-      c.next-item.ensures.list ∙ c.loop-item.invariant.0,
-      rw i (walk_on (f ws) c.args.next.now c.requires.rising c.args.from c.args.high.now c.args.low.now c.args.len.now c.loop-item.c t.index c.loop-item.high c.loop-item.low c.loop-item.len W
-          c.unwrap-word.result e (omega arith) (omega arith) (omega arith) c.if-d-eq0.false),
-    )
+pub returns-clause-stored : goal.returns-clause-stored
+returns-clause-stored g c =
+    walk_end (g.C.Code.words c.args.code.now c.args.list.now) (chain c.args.chains.now.next.now c.args.from) c.args.words.now.high.now c.args.words.now.low.now c.args.words.now.len.now c.loop-c.item.index
+    c.loop-c.words.high.now c.loop-c.words.low.now c.loop-c.words.len.now (left_none (chain c.args.chains.now.next.now c.args.from) c.loop-c.item.index (c.loop-c.invariant.ahead ∙ c.in-None.ensures.steps.0)) c.loop-c.invariant.walk

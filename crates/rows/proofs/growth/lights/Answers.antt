@@ -1,24 +1,36 @@
-use Rattle.std.proofs.Common.{◌≡◌, ◌<◌, ◌≢◌, length, ◌∙◌, arith, get_or-set_other, get_or-set_same, below_more}
+use Rattle.std.proofs.Common.{◌≡◌, ℕ, ◌-◌, length, ap, ◌∙◌, arith}
 use Rattle.labels.specs.Sizes.{light_size}
+use Rattle.rows.specs.Chains.{at}
 use Rattle.rows.specs.Rows.{parents_in}
+use Rattle.rows.proofs.Runs.{link_none, link_some}
 use Rattle.rows.proofs.Trees.{heavy_up}
 use Rattle.rows.proofs.PathRows.{light_leaf, light_rest_fits, light_rest_is}
+use Rattle.rows.proofs.Labelled.{stored_more}
 use Rattle.rows.proofs.growth.lights.Goals as goal
-use Rattle.rows.proofs.growth.lights.Goals.{then-h-eq0, else-h-eq0}
+use Rattle.rows.proofs.growth.lights.Goals.{in-None, in-Some}
 
-pub bounds-size-h : goal.bounds-size-h
-bounds-size-h c = omega (arith, heavy_up c.args.up.now c.args.heavy.now c.requires.rooted c.requires.chosen c.requires.heavies c.loop-v.v (omega arith) c.if-h-eq0.false)
+pub bounds-grown-h : goal.bounds-grown-h
+bounds-grown-h c =
+    let g = c.args.grown.now in
+    let k = link_some (at g.heavy.now c.loop-v.v) c.in-Some.h c.in-Some.ensures in
+    omega (arith, heavy_up g.up.row.now g.heavy.now g.up.rooted g.chosen g.heavies c.loop-v.v (omega arith) k.1, k.0, g.sizes)
 
-pub overflow_sub-light : goal.overflow_sub-light
-overflow_sub-light c = light_rest_fits c.args.up.now c.args.size.now c.args.heavy.now c.requires.rooted c.requires.sized c.requires.chosen c.requires.heavies c.loop-v.v (omega arith) c.if-h-eq0.false
+pub overflow_sub-place : goal.overflow_sub-place
+overflow_sub-place c =
+    let g = c.args.grown.now in
+    let k = link_some (at g.heavy.now c.loop-v.v) c.in-Some.h c.in-Some.ensures in
+    let s = ap (at g.size.now) k.0 in
+    omega (arith, s, light_rest_fits g.up.row.now g.size.now g.heavy.now g.up.rooted g.sized g.chosen g.heavies c.loop-v.v (omega arith) k.1)
 
 pub loop-v-preserved : goal.loop-v-preserved
 loop-v-preserved c =
-    let is : c.if-h-eq0.light ≡ light_size (parents_in c.args.up.now) (length c.args.up.now) c.loop-v.v =
-    elim c.if-h-eq0.branch [
-      | then-h-eq0 w ↦ w.light-is ∙ light_leaf c.args.up.now c.args.size.now c.args.heavy.now c.requires.rooted c.requires.sized c.requires.chosen c.requires.heavies c.loop-v.v (omega arith) w.if-h-eq0.true
-      | else-h-eq0 w ↦ w.light-is ∙ light_rest_is c.args.up.now c.args.size.now c.args.heavy.now c.requires.rooted c.requires.sized c.requires.chosen c.requires.heavies c.loop-v.v (omega arith) w.if-h-eq0.false
+    let g = c.args.grown.now in
+    let is : c.match-link.place ≡ light_size (parents_in c.args.grown.now.up.row.now) (length c.args.grown.now.up.row.now) c.loop-v.v =
+    elim c.match-link.branch [
+      | in-None w ↦ w.place-is ∙ light_leaf g.up.row.now g.size.now g.heavy.now g.up.rooted g.sized g.chosen g.heavies c.loop-v.v (omega arith) (link_none (at g.heavy.now c.loop-v.v) w.in-None.ensures)
+      | in-Some w ↦
+          let k = link_some (at g.heavy.now c.loop-v.v) w.in-Some.h w.in-Some.ensures in
+          w.place-is ∙ ap (λ (x : ℕ). at g.size.now c.loop-v.v - at g.size.now x) k.0
+          ∙ light_rest_is g.up.row.now g.size.now g.heavy.now g.up.rooted g.sized g.chosen g.heavies c.loop-v.v (omega arith) k.1
     ] in
-    below_more _ _
-    (λ k h. let ne : k ≢ c.loop-v.v = omega arith in rw get_or-set_other (c.loop-v.invariant k h))
-    (let lt : c.loop-v.v < length c.loop-v.light = omega arith in get_or-set_same c.loop-v.light c.loop-v.v c.if-h-eq0.light 0 lt ∙ is)
+    stored_more (light_size (parents_in g.up.row.now) (length g.up.row.now)) c.loop-v.light c.loop-v.v c.match-link.place is (omega arith) c.loop-v.invariant

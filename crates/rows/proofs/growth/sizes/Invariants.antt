@@ -4,4 +4,4 @@ use Rattle.rows.proofs.growth.sizes.Given as goal
 
 -- the nodes from v on have handed their sizes up
 abbrev pub invariant-loop-v : goal.invariant-loop-v
-invariant-loop-v l = (0 < length l.up → 1 ≤ l.v) × ((w : ℕ) → w < length l.up → get_or l.size w 0 ≡ size_from l.up l.v w)
+invariant-loop-v l = (0 < length l.up.row.now → 1 ≤ l.v) × ((w : ℕ) → w < length l.up.row.now → get_or l.size w 0 ≡ size_from l.up.row.now l.v w)

@@ -8,65 +8,49 @@ use Rattle.rows.proofs.Labelled.{stored_more, above, fields_root, bits_root, few
 use Rattle.rows.proofs.marks.counts.Goals as goal
 use Rattle.rows.proofs.marks.counts.Goals.{then-t-eq0, else-t-eq0}
 
-pub loop-v-init : goal.loop-v-init
-loop-v-init g c = (λ w h. absurd (omega arith), λ w h. absurd (omega arith))
-
 pub loop-v-preserved : goal.loop-v-preserved
 loop-v-preserved g c =
-    let f = g.C.Code.words c.args.code.now in
-    let up = c.args.up.now in
+    let f = g.C.Code.words c.args.words.now.code.now in
+    let up = c.args.words.now.up.row.now in
     let v = c.loop-v.v in
     let l : v < length up = omega arith in
-    let F : ℕ → ℕ = λ w. length (body_in (row_label (g.C.Code.words c.args.code.now) c.args.up.now w)) in
-    let G : ℕ → ℕ = λ w. length (row_label (g.C.Code.words c.args.code.now) c.args.up.now w) in
+    let F : ℕ → ℕ = λ w. length (body_in (row_label (g.C.Code.words c.args.words.now.code.now) c.args.words.now.up.row.now w)) in
+    let G : ℕ → ℕ = λ w. length (row_label (g.C.Code.words c.args.words.now.code.now) c.args.words.now.up.row.now w) in
     let Q : (ℕ → ℕ) → List ℕ → Type 0 = λ H xs. (w : ℕ) → w < v + 1 → at xs w ≡ H w in
     elim c.if-t-eq0.branch [
       | then-t-eq0 w ↦
           let z : top (parents_in up) (length up) v ≡ 0 = sym (c.requires.topped v l) ∙ w.if-t-eq0.true in (
-            subst (Q F) (sym w.bits-is) (stored_more F c.loop-v.bits v _ ((c.requires.paths v l).1 ∙ bits_root up c.requires.rooted f v l z) (omega arith) c.loop-v.invariant.0),
-            subst (Q G) (sym w.fields-is) (stored_more G c.loop-v.fields v 1 (fields_root up c.requires.rooted f v l z) (omega arith) c.loop-v.invariant.1),
+            subst (Q F) (sym w.bits-is) (stored_more F c.loop-v.bits v _ ((c.args.words.now.paths v l).1 ∙ bits_root up c.args.words.now.up.rooted f v l z) (omega arith) c.loop-v.invariant.0),
+            subst (Q G) (sym w.fields-is) (stored_more G c.loop-v.fields v 1 (fields_root up c.args.words.now.up.rooted f v l z) (omega arith) c.loop-v.invariant.1),
           )
       | else-t-eq0 w ↦
-          let A = above up c.requires.rooted f c.args.top.now c.args.path_high.now c.args.path_low.now c.args.path_len.now c.args.branch_high.now c.args.branch_low.now c.args.branch_len.now c.requires.topped c.requires.paths c.requires.branches v l w.if-t-eq0.false in (
+          let A = above up c.args.words.now.up.rooted f c.args.top.now c.args.words.now.path.high.now c.args.words.now.path.low.now c.args.words.now.path.len.now c.args.words.now.branch.high.now c.args.words.now.branch.low.now c.args.words.now.branch.len.now c.requires.topped c.args.words.now.paths c.args.words.now.branches v l w.if-t-eq0.false in (
             subst (Q F) (sym w.bits-is) (stored_more F c.loop-v.bits v _ (A.bits_are c.loop-v.bits c.loop-v.invariant.0) (omega arith) c.loop-v.invariant.0),
             subst (Q G) (sym w.fields-is) (stored_more G c.loop-v.fields v _ (A.fields_are c.loop-v.fields c.loop-v.invariant.1) (omega arith) c.loop-v.invariant.1),
           )
     ]
 
-pub returns : goal.returns
-returns g c = record { counted = λ v l. c.loop-v.invariant.0 v (omega arith); numbered = λ v l. c.loop-v.invariant.1 v (omega arith) }
-
-pub bounds-up-t : goal.bounds-up-t
-bounds-up-t g c =
-    let A = above c.args.up.now c.requires.rooted (g.C.Code.words c.args.code.now) c.args.top.now c.args.path_high.now c.args.path_low.now c.args.path_len.now c.args.branch_high.now c.args.branch_low.now c.args.branch_len.now c.requires.topped c.requires.paths c.requires.branches c.loop-v.v (omega arith) c.if-t-eq0.false in
+pub bounds-words-t : goal.bounds-words-t
+bounds-words-t g c =
+    let A = above c.args.words.now.up.row.now c.args.words.now.up.rooted (g.C.Code.words c.args.words.now.code.now) c.args.top.now c.args.words.now.path.high.now c.args.words.now.path.low.now c.args.words.now.path.len.now c.args.words.now.branch.high.now c.args.words.now.branch.low.now c.args.words.now.branch.len.now c.requires.topped c.args.words.now.paths c.args.words.now.branches c.loop-v.v (omega arith) c.if-t-eq0.false in
     omega (arith, A.top_in)
 
-pub bounds-bits-p : goal.bounds-bits-p
-bounds-bits-p g c =
-    let A = above c.args.up.now c.requires.rooted (g.C.Code.words c.args.code.now) c.args.top.now c.args.path_high.now c.args.path_low.now c.args.path_len.now c.args.branch_high.now c.args.branch_low.now c.args.branch_len.now c.requires.topped c.requires.paths c.requires.branches c.loop-v.v (omega arith) c.if-t-eq0.false in
-    omega (arith, A.below)
-
-pub bounds-branch_len-t : goal.bounds-branch_len-t
-bounds-branch_len-t g c =
-    let A = above c.args.up.now c.requires.rooted (g.C.Code.words c.args.code.now) c.args.top.now c.args.path_high.now c.args.path_low.now c.args.path_len.now c.args.branch_high.now c.args.branch_low.now c.args.branch_len.now c.requires.topped c.requires.paths c.requires.branches c.loop-v.v (omega arith) c.if-t-eq0.false in
+pub bounds-words-t-else-t-eq0 : goal.bounds-words-t-else-t-eq0
+bounds-words-t-else-t-eq0 g c =
+    let A = above c.args.words.now.up.row.now c.args.words.now.up.rooted (g.C.Code.words c.args.words.now.code.now) c.args.top.now c.args.words.now.path.high.now c.args.words.now.path.low.now c.args.words.now.path.len.now c.args.words.now.branch.high.now c.args.words.now.branch.low.now c.args.words.now.branch.len.now c.requires.topped c.args.words.now.paths c.args.words.now.branches c.loop-v.v (omega arith) c.if-t-eq0.false in
     omega (arith, A.top_in)
 
 pub overflow_add-bits : goal.overflow_add-bits
 overflow_add-bits g c =
-    let A = above c.args.up.now c.requires.rooted (g.C.Code.words c.args.code.now) c.args.top.now c.args.path_high.now c.args.path_low.now c.args.path_len.now c.args.branch_high.now c.args.branch_low.now c.args.branch_len.now c.requires.topped c.requires.paths c.requires.branches c.loop-v.v (omega arith) c.if-t-eq0.false in
-    omega (arith, A.bits_are c.loop-v.bits c.loop-v.invariant.0, few_bits c.args.up.now c.requires.rooted (g.C.Code.words c.args.code.now) (g.C.Code.laws c.args.code.now) c.loop-v.v (omega arith))
+    let A = above c.args.words.now.up.row.now c.args.words.now.up.rooted (g.C.Code.words c.args.words.now.code.now) c.args.top.now c.args.words.now.path.high.now c.args.words.now.path.low.now c.args.words.now.path.len.now c.args.words.now.branch.high.now c.args.words.now.branch.low.now c.args.words.now.branch.len.now c.requires.topped c.args.words.now.paths c.args.words.now.branches c.loop-v.v (omega arith) c.if-t-eq0.false in
+    omega (arith, A.bits_are c.loop-v.bits c.loop-v.invariant.0, few_bits c.args.words.now.up.row.now c.args.words.now.up.rooted (g.C.Code.words c.args.words.now.code.now) (g.C.Code.laws c.args.words.now.code.now) c.loop-v.v (omega arith))
 
 pub overflow_add-bits-else-t-eq0 : goal.overflow_add-bits-else-t-eq0
 overflow_add-bits-else-t-eq0 g c =
-    let A = above c.args.up.now c.requires.rooted (g.C.Code.words c.args.code.now) c.args.top.now c.args.path_high.now c.args.path_low.now c.args.path_len.now c.args.branch_high.now c.args.branch_low.now c.args.branch_len.now c.requires.topped c.requires.paths c.requires.branches c.loop-v.v (omega arith) c.if-t-eq0.false in
-    omega (arith, A.bits_are c.loop-v.bits c.loop-v.invariant.0, few_bits c.args.up.now c.requires.rooted (g.C.Code.words c.args.code.now) (g.C.Code.laws c.args.code.now) c.loop-v.v (omega arith))
-
-pub bounds-fields-p : goal.bounds-fields-p
-bounds-fields-p g c =
-    let A = above c.args.up.now c.requires.rooted (g.C.Code.words c.args.code.now) c.args.top.now c.args.path_high.now c.args.path_low.now c.args.path_len.now c.args.branch_high.now c.args.branch_low.now c.args.branch_len.now c.requires.topped c.requires.paths c.requires.branches c.loop-v.v (omega arith) c.if-t-eq0.false in
-    omega (arith, A.below)
+    let A = above c.args.words.now.up.row.now c.args.words.now.up.rooted (g.C.Code.words c.args.words.now.code.now) c.args.top.now c.args.words.now.path.high.now c.args.words.now.path.low.now c.args.words.now.path.len.now c.args.words.now.branch.high.now c.args.words.now.branch.low.now c.args.words.now.branch.len.now c.requires.topped c.args.words.now.paths c.args.words.now.branches c.loop-v.v (omega arith) c.if-t-eq0.false in
+    omega (arith, A.bits_are c.loop-v.bits c.loop-v.invariant.0, few_bits c.args.words.now.up.row.now c.args.words.now.up.rooted (g.C.Code.words c.args.words.now.code.now) (g.C.Code.laws c.args.words.now.code.now) c.loop-v.v (omega arith))
 
 pub overflow_add-fields : goal.overflow_add-fields
 overflow_add-fields g c =
-    let A = above c.args.up.now c.requires.rooted (g.C.Code.words c.args.code.now) c.args.top.now c.args.path_high.now c.args.path_low.now c.args.path_len.now c.args.branch_high.now c.args.branch_low.now c.args.branch_len.now c.requires.topped c.requires.paths c.requires.branches c.loop-v.v (omega arith) c.if-t-eq0.false in
-    omega (arith, A.fields_are c.loop-v.fields c.loop-v.invariant.1, few_fields c.args.up.now c.requires.rooted (g.C.Code.words c.args.code.now) c.loop-v.v (omega arith))
+    let A = above c.args.words.now.up.row.now c.args.words.now.up.rooted (g.C.Code.words c.args.words.now.code.now) c.args.top.now c.args.words.now.path.high.now c.args.words.now.path.low.now c.args.words.now.path.len.now c.args.words.now.branch.high.now c.args.words.now.branch.low.now c.args.words.now.branch.len.now c.requires.topped c.args.words.now.paths c.args.words.now.branches c.loop-v.v (omega arith) c.if-t-eq0.false in
+    omega (arith, A.fields_are c.loop-v.fields c.loop-v.invariant.1, few_fields c.args.words.now.up.row.now c.args.words.now.up.rooted (g.C.Code.words c.args.words.now.code.now) c.loop-v.v (omega arith))

@@ -5,4 +5,4 @@ use Rattle.rows.specs.Rows.{parents_in}
 use Rattle.rows.proofs.marks.depths.Given as goal
 
 abbrev pub invariant-loop-v : goal.invariant-loop-v
-invariant-loop-v l = (w : ℕ) → w < l.v → at l.depth w ≡ depth_of (parents_in l.up) w
+invariant-loop-v l = (w : ℕ) → w < l.v → at l.depth w ≡ depth_of (parents_in l.up.row.now) w

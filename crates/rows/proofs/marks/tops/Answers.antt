@@ -1,26 +1,21 @@
-use Rattle.std.proofs.Common.{◌≡◌, ◌<◌, length, sym, ◌∙◌, arith, length-set}
+use Rattle.std.proofs.Common.{◌≡◌, ◌<◌, length, sym, ◌∙◌, arith}
 use Rattle.labels.specs.Paths.{top}
 use Rattle.rows.specs.Rows.{parents_in}
-use Rattle.rows.proofs.Labelled.{stored_more, top_root, top_on, top_new}
+use Rattle.rows.proofs.PathRows.{begins}
+use Rattle.rows.proofs.Labelled.{stored_more, top_on}
 use Rattle.rows.proofs.marks.tops.Goals as goal
-use Rattle.rows.proofs.marks.tops.Goals.{then-heavy-p, else-heavy-p}
-
-pub loop-v-init : goal.loop-v-init
-loop-v-init c =
-    stored_more (top (parents_in c.args.up.now) (length c.args.up.now)) c.args.top.now 0 0 (sym (top_root c.args.up.now c.requires.rooted)) (omega arith) (λ k h. absurd (omega arith))
+use Rattle.rows.proofs.marks.tops.Goals.{then-is_heavy, else-is_heavy}
 
 pub loop-v-preserved : goal.loop-v-preserved
 loop-v-preserved c =
-    let up = c.args.up.now in
+    let g = c.args.grown.now in
     let v = c.loop-v.v in
-    let l : v < length up = omega arith in
-    let b = c.requires.rooted.below v (omega arith) l in
-    let is : c.if-heavy-p.top ≡ top (parents_in up) (length up) v =
-    elim c.if-heavy-p.branch [
-      | then-heavy-p w ↦ w.top-is ∙ c.loop-v.invariant _ b ∙ top_on up c.requires.rooted c.args.heavy.now c.requires.chosen c.requires.heavies v (omega arith) l w.if-heavy-p.true
-      | else-heavy-p w ↦ w.top-is ∙ top_new up c.requires.rooted c.args.heavy.now c.requires.chosen c.requires.heavies v (omega arith) l w.if-heavy-p.false
+    let l : c.loop-v.v < length c.args.grown.now.up.row.now = omega arith in
+    let is : c.if-is_heavy.top ≡ top (parents_in c.args.grown.now.up.row.now) (length c.args.grown.now.up.row.now) c.loop-v.v =
+    elim c.if-is_heavy.branch [
+      | then-is_heavy w ↦
+          let h = c.is_heavy.ensures.if_true w.if-is_heavy.true in
+          w.top-is ∙ c.loop-v.invariant _ (g.up.rooted.below v h.0 l) ∙ top_on g.up.row.now g.up.rooted g.heavy.now g.chosen g.heavies v h.0 l h.1
+      | else-is_heavy w ↦ w.top-is ∙ sym (begins g.up.row.now g.heavy.now g.up.rooted g.chosen g.heavies v l (c.is_heavy.ensures.if_false w.if-is_heavy.false))
     ] in
-    stored_more (top (parents_in c.args.up.now) (length c.args.up.now)) c.loop-v.top v c.if-heavy-p.top is (omega (arith, length-set c.args.top.now 0 0)) c.loop-v.invariant
-
-pub returns : goal.returns
-returns c v l = c.loop-v.invariant v (omega (arith, c.requires.rooted.any))
+    stored_more (top (parents_in g.up.row.now) (length g.up.row.now)) c.loop-v.top v c.if-is_heavy.top is (omega arith) c.loop-v.invariant

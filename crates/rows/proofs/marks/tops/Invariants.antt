@@ -5,4 +5,4 @@ use Rattle.rows.specs.Rows.{parents_in}
 use Rattle.rows.proofs.marks.tops.Given as goal
 
 abbrev pub invariant-loop-v : goal.invariant-loop-v
-invariant-loop-v l = (w : ℕ) → w < l.v → at l.top w ≡ top (parents_in l.up) (length l.up) w
+invariant-loop-v l = (w : ℕ) → w < l.v → at l.top w ≡ top (parents_in l.grown.up.row.now) (length l.grown.up.row.now) w

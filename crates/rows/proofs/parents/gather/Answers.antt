@@ -1,28 +1,25 @@
-use Rattle.std.proofs.Common.{◌≡◌, ℕ, ◌<◌, ◌≤◌, length, is_some, Some, sym, ap, ◌∙◌, arith}
-use Rattle.rows.specs.Chains.{at}
+use Rattle.std.proofs.Common.{◌≡◌, ℕ, length, None, Some, Option, sym, ◌∙◌, arith}
 use Rattle.rows.proofs.Bridge.{rooted, same, more_stored}
 use Rattle.rows.proofs.parents.gather.Goals as goal
-
-pub loop-v-init : goal.loop-v-init
-loop-v-init g c k a b = absurd (omega arith)
-
-pub overflow_cast-v : goal.overflow_cast-v
-overflow_cast-v g c = let t = g.H.Host.laws c.args.host.now (length c.args.up.now) c.requires.tree in omega (arith, t.few)
-
-pub unwrap-p-requires : goal.unwrap-p-requires
-unwrap-p-requires g c =
-    let t = g.H.Host.laws c.args.host.now (length c.args.up.now) c.requires.tree in
-    ap is_some (c.parent.ensures ∙ (t.inner c.loop-v.v (omega arith) (omega arith)).1)
+use Rattle.rows.proofs.parents.gather.Goals.{in-Some, in_default}
 
 pub loop-v-preserved : goal.loop-v-preserved
 loop-v-preserved g c =
-    more_stored (g.H.Host.parents c.args.host.now) c.loop-v.up c.loop-v.v c.unwrap-p.result (sym c.parent.ensures ∙ c.unwrap-p.ensures) (omega arith) c.loop-v.invariant
+    elim c.match-parent.branch [
+      | in-Some w ↦ λ k a b. rw w.row-is (more_stored (g.H.Host.parents c.args.host.now) c.loop-v.row c.loop-v.v w.in-Some.p (sym w.in-Some.ensures) (omega arith) c.loop-v.invariant k a b)
+      | in_default w ↦ λ k a b.
+          let t = g.H.Host.laws c.args.host.now (length c.args.row.now) c.requires.tree in
+          let i = t.inner c.loop-v.v (omega arith) (omega arith) in
+          let e : ◌≡◌ {A = Option ℕ} None (Some i.0) = w.in_default.ensures ∙ i.1 in
+          absurd cc
+    ]
 
-pub returns : goal.returns
-returns g c =
-    let t = g.H.Host.laws c.args.host.now (length c.args.up.now) c.requires.tree in
-    let h : (v : ℕ) → 1 ≤ v → v < length c.args.up.now → g.H.Host.parents c.args.host.now v ≡ Some (at c.loop-v.up v) = λ v a b. c.loop-v.invariant v a (omega (arith, t.some_node)) in
-    record {
-      rooted = rooted c.loop-v.up (length c.args.up.now) (g.H.Host.parents c.args.host.now) t (omega arith) h;
-      held = same c.loop-v.up (length c.args.up.now) (g.H.Host.parents c.args.host.now) t (omega arith) h;
-    }
+pub invariant_of-result : goal.invariant_of-result
+invariant_of-result g c =
+    let t = g.H.Host.laws c.args.host.now (length c.args.row.now) c.requires.tree in
+    record { rooted = rooted c.loop-v.row (length c.args.row.now) (g.H.Host.parents c.args.host.now) t (omega arith) (λ v a b. c.loop-v.invariant v a (omega arith)) }
+
+pub returns-clause-held : goal.returns-clause-held
+returns-clause-held g c =
+    let t = g.H.Host.laws c.args.host.now (length c.args.row.now) c.requires.tree in
+    same c.loop-v.row (length c.args.row.now) (g.H.Host.parents c.args.host.now) t (omega arith) (λ v a b. c.loop-v.invariant v a (omega arith))

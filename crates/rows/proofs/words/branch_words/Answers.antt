@@ -1,42 +1,48 @@
-use Rattle.std.proofs.Common.{◌+◌, ◌<◌, length, arith}
+use Rattle.std.proofs.Common.{ℕ, ◌<◌, map, length, sym, subst, arith}
 use Rattle.trees.proofs.Upward.{child}
+use Rattle.codes.specs.Weighing.{Weights}
 use Rattle.labels.proofs.Sizes.{light_child}
+use Rattle.rows.specs.Chains.{at, chain, Stored}
+use Rattle.rows.proofs.Runs.{link_none, link_some}
 use Rattle.rows.proofs.Trees.{tree}
-use Rattle.rows.proofs.PathRows.{moved}
-use Rattle.rows.proofs.BranchRows.{BranchTo, branch_fine, branch_skip, branch_turn}
+use Rattle.rows.proofs.BranchRows.{branch_fine, branch_skip, branch_turn}
 use Rattle.rows.proofs.words.branch_words.Goals as goal
-use Rattle.rows.proofs.words.branch_words.Goals.{then-c-ne0, else-c-ne0}
+use Rattle.rows.proofs.words.branch_words.Goals.{in-Some, in_default}
 
-pub code_chain-requires : goal.code_chain-requires
-code_chain-requires g c = record {
-  rising = c.requires.rising;
-  inside = omega (arith, c.requires.inside c.loop-p.p (omega arith));
-  weighed = omega arith;
-  room = omega arith;
-  highs = omega arith;
-  lows = omega arith;
-  lens = omega arith;
-  fine = branch_fine c.args.up.now c.args.size.now c.args.first.now c.args.next.now c.requires.rooted c.requires.sized c.requires.linked c.loop-p.p (omega arith) c.if-c-ne0.true;
-}
+pub code_chain-requires-clause-fine : goal.code_chain-requires-clause-fine
+code_chain-requires-clause-fine g c =
+    let t = c.args.grown.now in
+    let p = c.loop-number.number-index in
+    let k = link_some (at c.args.first.now p) c.in-Some.c c.in-Some.ensures in
+    subst (λ (x : ℕ). Weights (map (at c.args.grown.now.size.now) (chain c.args.next.now x))) (sym k.0)
+    (branch_fine t.up.row.now t.size.now c.args.first.now c.args.next.now t.up.rooted t.sized c.requires.linked p (omega arith) k.1)
 
-pub loop-p-preserved : goal.loop-p-preserved
-loop-p-preserved g c =
+pub loop-number-preserved : goal.loop-number-preserved
+loop-number-preserved g c =
     let f = g.C.Code.words c.args.code.now in
-    let up = c.args.up.now in
-    let p = c.loop-p.p in
-    let l : p < length up = omega arith in
-    elim c.if-c-ne0.branch [
-      | then-c-ne0 w ↦
-          moved (BranchTo f up (p + 1)) c.if-c-ne0.high c.if-c-ne0.low c.if-c-ne0.len w.code_chain.new.high w.code_chain.new.low w.code_chain.new.len w.high-is w.low-is w.len-is
-          (branch_turn up c.args.size.now c.args.first.now c.args.next.now c.requires.rooted c.requires.sized c.requires.linked p l f c.loop-p.high c.loop-p.low c.loop-p.len w.code_chain.new.high w.code_chain.new.low w.code_chain.new.len
-          w.if-c-ne0.true w.code_chain.ensures c.loop-p.invariant)
-      | else-c-ne0 w ↦
-          moved (BranchTo f up (p + 1)) c.if-c-ne0.high c.if-c-ne0.low c.if-c-ne0.len c.loop-p.high c.loop-p.low c.loop-p.len w.high-is w.low-is w.len-is
-          (branch_skip up c.args.size.now c.args.first.now c.args.next.now c.requires.rooted c.requires.sized c.requires.linked p l f c.loop-p.high c.loop-p.low c.loop-p.len w.if-c-ne0.false c.loop-p.invariant)
+    let t = c.args.grown.now in
+    let p = c.loop-number.number-index in
+    let l : c.loop-number.number-index < length c.args.grown.now.up.row.now = omega arith in
+    let a = c.loop-number.words in
+    elim c.match-link.branch [
+      | in-Some w ↦
+          let k = link_some (at c.args.first.now p) w.in-Some.c w.in-Some.ensures in
+          let b = w.code_chain.new.words in
+          let e = w.code_chain.ensures.wide in
+          let s = subst (λ (x : ℕ). Stored (g.C.Code.words c.args.code.now (map (at c.args.grown.now.size.now) (chain c.args.next.now x))) (chain c.args.next.now x) c.loop-number.words.high.now c.loop-number.words.low.now c.loop-number.words.len.now w.code_chain.new.words.high.now w.code_chain.new.words.low.now w.code_chain.new.words.len.now) k.0 w.code_chain.ensures.stored in
+          rw w.words-is (record {
+            wide = (omega (arith, e.0), omega (arith, e.1), omega (arith, e.2));
+            stored = branch_turn t.up.row.now t.size.now c.args.first.now c.args.next.now t.up.rooted t.sized c.requires.linked p l f a.high.now a.low.now a.len.now b.high.now b.low.now b.len.now k.1 s c.loop-number.invariant.stored;
+          })
+      | in_default w ↦
+          rw w.words-is (record {
+            wide = c.loop-number.invariant.wide;
+            stored = branch_skip t.up.row.now t.size.now c.args.first.now c.args.next.now t.up.rooted t.sized c.requires.linked p l f a.high.now a.low.now a.len.now (link_none (at c.args.first.now p) w.in_default.ensures) c.loop-number.invariant.stored;
+          })
     ]
 
-pub returns : goal.returns
-returns g c q k t =
-    let n = length c.args.up.now in
-    let i = child (tree c.args.up.now c.requires.rooted) k q (light_child (tree c.args.up.now c.requires.rooted) q k t) in
-    c.loop-p.invariant q k (omega arith) t
+pub returns-clause-branches : goal.returns-clause-branches
+returns-clause-branches g c q k t =
+    let T = tree c.args.grown.now.up.row.now c.args.grown.now.up.rooted in
+    let i = child T k q (light_child T q k t) in
+    c.loop-number.invariant.stored q k (omega arith) t

@@ -1,44 +1,45 @@
-use Rattle.std.proofs.Common.{◌≡◌, ◌+◌, ◌<◌, ◌≤◌, ◌⊎◌, length, inl, inr, arith}
+use Rattle.std.proofs.Common.{◌<◌, length, arith}
 use Rattle.labels.proofs.Paths.{top_le}
-use Rattle.rows.specs.Chains.{at}
 use Rattle.rows.proofs.Trees.{tree, heavy_rising}
-use Rattle.rows.proofs.PathRows.{PathTo, path_fine, begins, path_skip, path_turn, moved}
+use Rattle.rows.proofs.PathRows.{path_fine, begins, path_skip, path_turn}
 use Rattle.rows.proofs.words.path_words.Goals as goal
-use Rattle.rows.proofs.words.path_words.Goals.{then-t-eq0, then-t-eq0-via-then-t-eq0, then-t-eq0-via-else-t-eq0+then-heavy-up, else-t-eq0+else-heavy-up}
+use Rattle.rows.proofs.words.path_words.Goals.{then-not-is_heavy, else-not-is_heavy}
 
-pub code_chain-requires : goal.code_chain-requires
-code_chain-requires g c = record {
-  rising = heavy_rising c.args.up.now c.args.heavy.now c.requires.rooted c.requires.chosen c.requires.heavies;
-  inside = omega arith;
-  weighed = omega arith;
-  room = omega arith;
-  highs = omega arith;
-  lows = omega arith;
-  lens = omega arith;
-  fine = path_fine c.args.up.now c.args.heavy.now c.args.light.now c.requires.rooted c.requires.chosen c.requires.heavies c.requires.weighed c.loop-t.t (omega arith);
-}
+pub invariant_of-paths : goal.invariant_of-paths
+invariant_of-paths g c =
+    let t = c.args.grown.now in
+    record { rising = heavy_rising t.up.row.now t.heavy.now t.up.rooted t.chosen t.heavies; weighed = omega (arith, t.heavies) }
+
+pub code_chain-requires-clause-fine : goal.code_chain-requires-clause-fine
+code_chain-requires-clause-fine g c =
+    let t = c.args.grown.now in
+    path_fine t.up.row.now t.heavy.now c.args.light.now t.up.rooted t.chosen t.heavies c.requires.weighed c.loop-t.t (omega arith)
 
 pub loop-t-preserved : goal.loop-t-preserved
 loop-t-preserved g c =
     let f = g.C.Code.words c.args.code.now in
-    let up = c.args.up.now in
-    let heavy = c.args.heavy.now in
+    let t = c.args.grown.now in
     let light = c.args.light.now in
-    let t = c.loop-t.t in
-    let l : t < length up = omega arith in
-    elim c.if-t-eq0.branch [
-      | then-t-eq0 w ↦
-          let from : (t ≡ 0) ⊎ ((1 ≤ t) × (at heavy (at up t) ≡ t → ⊥)) =
-          elim w.then-t-eq0.branch [ then-t-eq0-via-then-t-eq0 w' ↦ inl w'.if-t-eq0.true | then-t-eq0-via-else-t-eq0+then-heavy-up w' ↦ inr (omega (arith, w'.if-t-eq0.false), w'.if-heavy-up.true) ] in
-          moved (PathTo f up (t + 1)) c.if-t-eq0.high c.if-t-eq0.low c.if-t-eq0.len w.code_chain.new.high w.code_chain.new.low w.code_chain.new.len w.high-is w.low-is w.len-is
-          (path_turn up heavy light c.requires.rooted c.requires.chosen c.requires.heavies c.requires.weighed f t l c.loop-t.high c.loop-t.low c.loop-t.len w.code_chain.new.high w.code_chain.new.low w.code_chain.new.len
-          (begins up heavy light c.requires.rooted c.requires.chosen c.requires.heavies c.requires.weighed t l from) w.code_chain.ensures c.loop-t.invariant)
-      | else-t-eq0+else-heavy-up w ↦
-          moved (PathTo f up (t + 1)) c.if-t-eq0.high c.if-t-eq0.low c.if-t-eq0.len c.loop-t.high c.loop-t.low c.loop-t.len w.high-is w.low-is w.len-is
-          (path_skip up heavy light c.requires.rooted c.requires.chosen c.requires.heavies c.requires.weighed f t l c.loop-t.high c.loop-t.low c.loop-t.len (omega (arith, w.if-t-eq0.false)) w.if-heavy-up.false c.loop-t.invariant)
+    let l : c.loop-t.t < length c.args.grown.now.up.row.now = omega arith in
+    let a = c.loop-t.words in
+    elim c.if-not-is_heavy.branch [
+      | then-not-is_heavy w ↦
+          let b = w.code_chain.new.words in
+          let e = w.code_chain.ensures.wide in
+          let begin = begins t.up.row.now t.heavy.now t.up.rooted t.chosen t.heavies c.loop-t.t l (c.is_heavy.ensures.if_false w.if-not-is_heavy.true) in
+          rw w.words-is (record {
+            wide = (omega (arith, t.heavies, e.0), omega (arith, t.heavies, e.1), omega (arith, t.heavies, e.2));
+            stored = path_turn t.up.row.now t.heavy.now light t.up.rooted t.chosen t.heavies c.requires.weighed f c.loop-t.t l a.high.now a.low.now a.len.now b.high.now b.low.now b.len.now begin w.code_chain.ensures.stored c.loop-t.invariant.stored;
+          })
+      | else-not-is_heavy w ↦
+          let h = c.is_heavy.ensures.if_true w.if-not-is_heavy.false in
+          rw w.words-is (record {
+            wide = c.loop-t.invariant.wide;
+            stored = path_skip t.up.row.now t.heavy.now light t.up.rooted t.chosen t.heavies c.requires.weighed f c.loop-t.t l a.high.now a.low.now a.len.now h.0 h.1 c.loop-t.invariant.stored;
+          })
     ]
 
-pub returns : goal.returns
-returns g c v l =
-    let p = top_le (tree c.args.up.now c.requires.rooted) v in
-    c.loop-t.invariant v l (omega arith)
+pub returns-clause-paths : goal.returns-clause-paths
+returns-clause-paths g c v l =
+    let p = top_le (tree c.args.grown.now.up.row.now c.args.grown.now.up.rooted) v in
+    c.loop-t.invariant.stored v l (omega arith)
