@@ -1,42 +1,71 @@
--- One turn of the two searches through the levels of a list.
-use Rattle.std.proofs.Common.{◌≡◌, ℕ, zero, suc, ◌+◌, ◌-◌, ◌≤◌, true, false, cond, eqb, List, get_or, Some, None, sym, ap, ◌∙◌, subst, suc-add, zero-add, arith}
-use Rattle.trees.specs.Indented.{misplaced, or_else, first_misplaced, nearest}
+-- The two searches through the levels of a list.
+use Rattle.std.proofs.Common.{◌≡◌, ℕ, zero, suc, ◌+◌, ◌-◌, ◌<◌, ◌≤◌, true, false, cond, eqb, get_or, List, [], ◌∷◌, length, find, Some, None, Option, MatchOption, sym, refl, ap, ◌∙◌, subst, ⊎_elim, arith}
+use Rattle.std.proofs.lemmas.Bool.{cases_lt}
+use Rattle.std.proofs.lemmas.Iterator.Adapters.{option_map_id}
+use Rattle.std.proofs.lemmas.Iterator.{YieldsList}
+use Rattle.std.proofs.lemmas.Iterator.Consumers.{YieldsList-from_shown}
+use Rattle.std.specs.Option.{option_map}
+use Rattle.std.specs.declared.ops.Range.{Range}
+use Rattle.std.specs.declared.iter.Rev.{Rev}
+use Rattle.trees.specs.Indented.{misplaced, first_misplaced, nearest}
 
--- The search for a misplaced line: none so far, and then line v.
-pub seen :
-    (xs : List ℕ) (v : ℕ) → 1 ≤ v → first_misplaced xs (v - 1) ≡ None
-    → first_misplaced xs v ≡ cond (misplaced xs v) (Some v) None
-seen xs zero a e = absurd (omega arith)
-seen xs (suc k) a e =
-    let i : suc k - 1 ≡ k = omega arith in
-    ap (λ o. or_else o (cond (misplaced xs (suc k)) (Some (suc k)) None)) (subst (λ (j : ℕ). first_misplaced xs j ≡ None) i e)
+module _ (xs : List ℕ) where
+  -- no line before line n is misplaced, but the first
+  abbrev Well : ℕ → Type 0
+  Well n = (v : ℕ) → 1 ≤ v → v < n → misplaced xs v ≡ false
 
-pub well : (xs : List ℕ) (v : ℕ) → 1 ≤ v → first_misplaced xs (v - 1) ≡ None → misplaced xs v ≡ false → first_misplaced xs (v + 1 - 1) ≡ None
-well xs v a e f =
-    let i : v ≡ v + 1 - 1 = omega arith in
-    subst (λ (j : ℕ). first_misplaced xs j ≡ None) i (seen xs v a e ∙ ap (λ t. cond t (Some v) None) f)
+  none_misplaced : (k : ℕ) → Well (suc k) → first_misplaced xs k ≡ None
+  none_misplaced zero h = refl
+  none_misplaced (suc k) h = rw (none_misplaced k (λ v a b. h v a (omega arith)), h (suc k) (omega arith) (omega arith)) refl
 
--- what is found stays the first
-stays : (xs : List ℕ) (k v d : ℕ) → first_misplaced xs k ≡ Some v → first_misplaced xs (d + k) ≡ Some v
-stays xs k v zero e = rw zero-add e
-stays xs k v (suc d) e = rw suc-add (ap (λ o. or_else o (cond (misplaced xs (suc (d + k))) (Some (suc (d + k))) None)) (stays xs k v d e))
+  -- what a search from line 1 to line k gives is the first misplaced line
+  abbrev Found : ℕ → Option ℕ → Type 0
+  Found k r = MatchOption r (Well (suc k)) (λ i. (1 ≤ i) × (i < suc k) × (misplaced xs i ≡ true) × Well i)
 
-pub ill :
-    (xs : List ℕ) (v k : ℕ) → 1 ≤ v → v ≤ k → first_misplaced xs (v - 1) ≡ None → misplaced xs v ≡ true
-    → Some v ≡ first_misplaced xs k
-ill xs v k a b e f =
-    let i : (k - v) + v ≡ k = omega arith in
-    sym (subst (λ (j : ℕ). first_misplaced xs j ≡ Some v) i (stays xs v v (k - v) (seen xs v a e ∙ ap (λ t. cond t (Some v) None) f)))
+  pub found_first : (k : ℕ) (r : Option ℕ) → Found k r → r ≡ first_misplaced xs k
+  found_first k None h = sym (none_misplaced k h)
+  found_first zero (Some i) h = absurd (omega (arith, h.0, h.1))
+  found_first (suc k) (Some i) h =
+      ⊎_elim
+      (λ (b : i < suc k). rw (sym (found_first k (Some i) (h.0, b, h.2, h.3))) refl)
+      (λ (b : suc k ≤ i).
+      let e : i ≡ suc k = omega (arith, h.1) in
+      let w : Well (suc k) = subst (λ j. Well j) e h.3 in
+      let m : misplaced xs (suc k) ≡ true = subst (λ j. misplaced xs j ≡ true) e h.2 in
+      rw (none_misplaced k w, m, e) refl)
+      (cases_lt i (suc k))
 
--- The search back for a level: line u - 1 has it, or has it not.
-back : (xs : List ℕ) (l u : ℕ) → 1 ≤ u → nearest xs l u ≡ cond (eqb (get_or xs (u - 1) 0 + 1) l) (Some (u - 1)) (nearest xs l (u - 1))
-back xs l zero a = absurd (omega arith)
-back xs l (suc k) a =
-    let i : k ≡ suc k - 1 = omega arith in
-    ap (λ (j : ℕ). cond (eqb (get_or xs j 0 + 1) l) (Some j) (nearest xs l j)) i
+-- A range of numbers from its last to its first: the turns of `rev`, and the list that they give.
+abbrev countdown : ℕ → ℕ → List ℕ
+countdown a zero = []
+countdown a (suc k) = (k + a) ∷ countdown a k
 
-pub hit : (xs : List ℕ) (l u : ℕ) → 1 ≤ u → eqb (get_or xs (u - 1) 0 + 1) l ≡ true → nearest xs l u ≡ Some (u - 1)
-hit xs l u a e = back xs l u a ∙ ap (λ t. cond t (Some (u - 1)) (nearest xs l (u - 1))) e
+abbrev turns_back : Rev (Range ℕ) → Option ℕ → Rev (Range ℕ) → Type 0
+turns_back s r t =
+    (t.iter.start ≡ s.iter.start)
+    × MatchOption r ((s.iter.end - s.iter.start ≡ 0) × (t.iter.end ≡ s.iter.end))
+    (λ x. (0 < s.iter.end - s.iter.start) × (x ≡ t.iter.end) × (s.iter.end ≡ t.iter.end + 1))
 
-pub miss : (xs : List ℕ) (l u : ℕ) → 1 ≤ u → eqb (get_or xs (u - 1) 0 + 1) l ≡ false → nearest xs l u ≡ nearest xs l (u - 1)
-miss xs l u a e = back xs l u a ∙ ap (λ t. cond t (Some (u - 1)) (nearest xs l (u - 1))) e
+turn : (a b n m x : ℕ) → b ≡ a → n ≡ suc m → x ≡ m + a → countdown a n ≡ x ∷ countdown b m
+turn a b n m x e f g = rw (e, f, g) refl
+
+pub counts_down : {s : Rev (Range ℕ)} → YieldsList turns_back (λ x. x) s (countdown s.iter.start (s.iter.end - s.iter.start))
+counts_down {s} =
+    YieldsList-from_shown turns_back (λ x. x) (λ s. countdown s.iter.start (s.iter.end - s.iter.start))
+    (λ s t p. ap (λ k. length (countdown s.iter.start k)) p.1.0)
+    (λ s x t p. turn s.iter.start t.iter.start _ _ x p.0 (omega (arith, p.0, p.1)) (omega (arith, p.0, p.1)))
+    s
+
+-- The search in it for a level finds the last line before line n that has it.
+find_nearest : (xs : List ℕ) (l n : ℕ) → find (λ u. eqb (get_or xs u 0 + 1) l) (countdown 0 n) ≡ nearest xs l n
+find_nearest xs l zero = refl
+find_nearest xs l (suc k) = let z : k + 0 ≡ k = omega arith in rw (z, find_nearest xs l k) refl
+
+pub found_nearest :
+    (xs : List ℕ) (l n : ℕ) (r : Option ℕ) (s : Rev (Range ℕ)) → s.iter ≡ record { start = 0; end = n }
+    → option_map (λ x. x) r ≡ find (λ u. eqb (get_or xs u 0 + 1) l) (countdown s.iter.start (s.iter.end - s.iter.start))
+    → r ≡ nearest xs l n
+found_nearest xs l n r s e h =
+    let w = rw e at h in
+    let z : n - 0 ≡ n = omega arith in
+    sym (option_map_id r) ∙ (rw z at w) ∙ find_nearest xs l n

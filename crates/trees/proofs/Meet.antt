@@ -1,11 +1,11 @@
 -- The deepest node at or above some nodes.
-use Rattle.std.proofs.Common.{◌≡◌, ℕ, ◌<◌, Bool, true, false, cond, List, [], ◌∷◌, Some, None, Option, sym, refl, ap, ◌∙◌, ⊎_elim, arith}
+use Rattle.std.proofs.Common.{◌≡◌, ℕ, ◌<◌, Bool, true, false, cond, List, [], ◌∷◌, Some, None, Ok, Option, sym, refl, ap, ◌∙◌, ⊎_elim, arith}
 use Rattle.std.proofs.lemmas.Bool.{both_ways}
 use Rattle.trees.specs.Tree.{Tree}
 use Rattle.trees.specs.Above.{AtOrAbove, here, up, is_above}
 use Rattle.trees.specs.Deepest.{Deepest, meet_of, meet_all}
-use Rattle.trees.specs.Climbing.{first_missing}
-use Rattle.trees.proofs.Answering.{split}
+use Rattle.trees.specs.Climbing.{first_missing, unless_missing}
+use Rattle.trees.proofs.Answering.{split, none_missing}
 use Rattle.trees.proofs.Upward.{child, upward, orphan, rise_none, rise_some}
 use Rattle.trees.proofs.Above.{through, here_or_up, smaller, both, not_above, above_up, passes, passed, root_above}
 
@@ -79,7 +79,7 @@ module _ {parent : ℕ → Option ℕ} {n : ℕ} (T : Tree parent n) where
   pub node : {a v : ℕ} → v < n → AtOrAbove parent a v → a < n
   node h k = let l = smaller T k in omega arith
 
-  pub several : (u : ℕ) (vs : List ℕ) → u < n → first_missing n vs ≡ None → Deepest parent (u ∷ vs) (meet_all parent u vs)
+  several : (u : ℕ) (vs : List ℕ) → u < n → first_missing n vs ≡ None → Deepest parent (u ∷ vs) (meet_all parent u vs)
   unfolding meet_all
   several u [] hu e = alone u
   several u (v ∷ vs) hu e =
@@ -90,6 +90,12 @@ module _ {parent : ℕ → Option ℕ} {n : ℕ} (T : Tree parent n) where
         above = (through k.above.0 m.above.0, (through k.above.0 m.above.1.0, k.above.1));
         lowest = λ x h. k.lowest x (m.lowest x (h.0, (h.1.0, tt)), h.1.1);
       }
+
+  -- what the checks of a node and of others, and a climb from one to the next, make of a result
+  pub deepest :
+      (u : ℕ) (vs : List ℕ) (d : ℕ) → Ok (tt {0}) ≡ unless_missing (first_missing n (u ∷ [])) (tt {0}) → Ok (tt {0}) ≡ unless_missing (first_missing n vs) (tt {0})
+      → d ≡ meet_all parent u vs → Deepest parent (u ∷ vs) d
+  deepest u vs d a b e = rw e (several u vs (split n u [] (none_missing n (u ∷ []) a)).0 (none_missing n vs b))
 
   pub one : (vs : List ℕ) (d e : ℕ) → Deepest parent vs d → Deepest parent vs e → d ≡ e
   one vs d e h k = both T (k.lowest d h.above) (h.lowest e k.above)

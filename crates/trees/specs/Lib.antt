@@ -3,6 +3,7 @@ pub mod Above
 pub mod Order
 pub mod Deepest
 pub mod Fault
+pub mod FaultCode
 pub mod Host
 pub mod HostLaw
 pub mod Rule

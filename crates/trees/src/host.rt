@@ -1,7 +1,7 @@
 // What a tree of parts is asked, by whoever labels it.
 ghost use Rattle.std.specs.Prelude.{◌≡◌, ℕ, Some, Ok, Option, Result};
 ghost use Rattle.trees.specs.Tree.{Tree};
-ghost use Rattle.trees.specs.Fault.{kind_number, fault_text};
+ghost use Rattle.trees.specs.Fault.{kind_number, fault_text, fault};
 ghost use Rattle.trees.specs.declared.host.HostFault.{HostFault};
 
 use std::fmt;
@@ -36,6 +36,13 @@ impl FaultKind {
             FaultKind::Level => 8,
             FaultKind::Other(number) => number,
         }
+    }
+
+    // The fault of this kind at a place.
+    pub fn at(self, place: usize) -> HostFault
+        ensures { result ≡ fault self place }
+    {
+        HostFault { kind: self, place }
     }
 }
 

@@ -1,16 +1,17 @@
 // A tree given by the levels of an indented parts list: line v is node v.
 ghost use Rattle.std.specs.Prelude.{◌≡◌, ◌+◌, ◌-◌, ◌<◌, ◌≤◌, false, length, is_ok, None, ◌==◌, slice_index};
+ghost use Rattle.std.specs.Coded.{Coded-set};
 ghost use Rattle.trees.specs.Indented.{indented_verdict, indented_parent, nearest, misplaced, first_misplaced};
 ghost use Rattle.trees.specs.IndentedLaw.{indented_tree};
 
 use crate::host::{FaultKind, Host, HostFault, MOST_NODES};
 
-// The levels of a parts list, one to a line, and whether they give a tree.
+// The levels of a parts list, one to a line, and the verdict on them.
 #[derive(Clone, Copy)]
 pub struct IndentedHost<'a> {
     levels: &'a [u16],
-    sound: bool,
-    ghost judged: { sound ≡ is_ok (indented_verdict levels.now) },
+    verdict: Result<u16, HostFault>,
+    ghost judged: { verdict ≡ indented_verdict levels.now } by { Coded-set verdict-code _ _ },
 }
 
 impl<'a> IndentedHost<'a> {
@@ -18,8 +19,8 @@ impl<'a> IndentedHost<'a> {
     pub fn new(levels: &'a [u16]) -> IndentedHost<'a>
         ensures { result.levels.now ≡ levels.now }
     {
-        let sound = judge(levels).is_ok();
-        IndentedHost { levels, sound }
+        let verdict = judge(levels);
+        IndentedHost { levels, verdict }
     }
 }
 
@@ -38,12 +39,11 @@ fn misplaced_line(levels: &[u16]) -> Option<usize>
     requires { 1 ≤ length levels.now }
     ensures { result ≡ first_misplaced levels.now (length levels.now - 1) }
 {
-    for v in 1..levels.len() {
-        if is_misplaced(levels, v) {
-            return Some(v);
-        }
-    }
-    None
+    (1..levels.len()).find(
+        |v|
+            requires { (1 ≤ v.now) × (v.now < length levels.now) }
+        { is_misplaced(levels, *v) },
+    )
 }
 
 // The verdict on the levels of a list, in one pass.
@@ -52,28 +52,16 @@ fn judge(levels: &[u16]) -> Result<u16, HostFault>
 {
     let n = levels.len();
     if n == 0 {
-        return Err(HostFault {
-            kind: FaultKind::Empty,
-            place: 0,
-        });
+        return Err(FaultKind::Empty.at(0));
     }
     if n > MOST_NODES as usize {
-        return Err(HostFault {
-            kind: FaultKind::TooMany,
-            place: MOST_NODES as usize,
-        });
+        return Err(FaultKind::TooMany.at(MOST_NODES as usize));
     }
     if levels[0] != 0 {
-        return Err(HostFault {
-            kind: FaultKind::FirstLevel,
-            place: 0,
-        });
+        return Err(FaultKind::FirstLevel.at(0));
     }
     match misplaced_line(levels) {
-        Some(v) => Err(HostFault {
-            kind: FaultKind::Level,
-            place: v,
-        }),
+        Some(v) => Err(FaultKind::Level.at(v)),
         None => Ok(n as u16),
     }
 }
@@ -91,12 +79,11 @@ fn line_above(levels: &[u16], v: u16) -> Option<u16>
     requires { v < length levels.now }
     ensures { result ≡ nearest levels.now (slice_index levels.now v) v }
 {
-    for u in (0..v).rev() {
-        if is_one_less(levels, u, v) {
-            return Some(u);
-        }
-    }
-    None
+    (0..v).rev().find(
+        |u|
+            requires { (u.now < length levels.now) × (v < length levels.now) }
+        { is_one_less(levels, *u, v) },
+    )
 }
 
 impl<'a> Host for IndentedHost<'a> {
@@ -107,14 +94,14 @@ impl<'a> Host for IndentedHost<'a> {
     ghost laws = { λ h. indented_tree h.levels.now };
 
     fn verdict(&self) -> Result<u16, HostFault> {
-        judge(self.levels)
+        self.verdict
     }
 
     fn parent(&self, v: u16) -> Option<u16>
         ensures value { result ≡ indented_parent self.now.levels.now v }
         ensures silent { is_ok (indented_verdict self.now.levels.now) ≡ false → result ≡ None }
     {
-        if !self.sound || v as usize >= self.levels.len() {
+        if self.verdict.is_err() || v as usize >= self.levels.len() {
             return None;
         }
         line_above(self.levels, v)

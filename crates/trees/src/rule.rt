@@ -44,16 +44,10 @@ impl Host for RuleHost {
 
     fn verdict(&self) -> Result<u16, HostFault> {
         if self.count == 0 {
-            return Err(HostFault {
-                kind: FaultKind::Empty,
-                place: 0,
-            });
+            return Err(FaultKind::Empty.at(0));
         }
         if self.count > MOST_NODES {
-            return Err(HostFault {
-                kind: FaultKind::TooMany,
-                place: 0,
-            });
+            return Err(FaultKind::TooMany.at(0));
         }
         Ok(self.count)
     }

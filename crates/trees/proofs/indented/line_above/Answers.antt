@@ -1,15 +1,11 @@
-use Rattle.std.proofs.Common.{get_or, sym, ◌∙◌}
-use Rattle.trees.proofs.Lines.{hit, miss}
+use Rattle.std.proofs.Common.{rules, tests, ◌+◌, eqb, get_or}
+use Rattle.std.proofs.lemmas.Iterator.Search.{find_from_yields_List}
+use Rattle.trees.proofs.Lines.{counts_down, found_nearest}
 use Rattle.trees.proofs.indented.line_above.Goals as goal
 
-pub returns-then-is_one_less : goal.returns-then-is_one_less
-returns-then-is_one_less c =
+pub returns : goal.returns
+returns c =
     let xs = c.args.levels.now in
-    let found = sym c.is_one_less.ensures ∙ c.if-is_one_less.true in
-    sym (sym c.loop-u.invariant ∙ hit xs (get_or xs c.args.v 0) c.loop-u.u c.loop-u-test.true found)
-
-pub loop-u-preserved : goal.loop-u-preserved
-loop-u-preserved c =
-    let xs = c.args.levels.now in
-    let passed = sym c.is_one_less.ensures ∙ c.if-is_one_less.false in
-    sym (miss xs (get_or xs c.args.v 0) c.loop-u.u c.loop-u-test.true passed) ∙ c.loop-u.invariant
+    let l = get_or xs c.args.v 0 in
+    found_nearest xs l c.args.v c.find.result c.rev.result c.rev.ensures.source
+    (find_from_yields_List (λ u. eqb (get_or xs u 0 + 1) l) _ _ c.find.result c.find.ensures.ran counts_down (λ x b q k. search (rules, tests)))

@@ -1,11 +1,11 @@
 use Rattle.std.proofs.Common.{◌≡◌, ◌+◌, ◌<◌}
 use Rattle.trees.specs.Deepest.{meet_of}
-use Rattle.trees.proofs.climb.meet_two.Given as goal
+use Rattle.trees.proofs.climb.Climber.meet_two.Given as goal
 
 abbrev pub invariant-loop-left : goal.invariant-loop-left
 invariant-loop-left g l =
-    (l.left < l.n) × (l.right < l.n)
-    × (meet_of (g.H.Host.parents l.host) l.left l.right ≡ meet_of (g.H.Host.parents l.host) l.a l.b)
+    (l.left < l.self.count) × (l.right < l.self.count)
+    × (meet_of (g.H.Host.parents l.self.host.now) l.left l.right ≡ meet_of (g.H.Host.parents l.self.host.now) l.a l.b)
 
 abbrev pub decreases-loop-left : goal.decreases-loop-left
 decreases-loop-left g l = l.left + l.right

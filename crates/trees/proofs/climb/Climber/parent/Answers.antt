@@ -1,14 +1,14 @@
 use Rattle.std.proofs.Common.{is_some, sym, ap, ◌∙◌}
 use Rattle.trees.proofs.Upward.{child}
-use Rattle.trees.proofs.climb.parent_of.Goals as goal
+use Rattle.trees.proofs.climb.Climber.parent.Goals as goal
 
 pub unwrap-requires : goal.unwrap-requires
 unwrap-requires g c =
-    let t = g.H.Host.laws c.args.host.now c.args.n c.requires.tree in
+    let t = g.H.Host.laws c.args.self.now.host.now c.args.self.now.count c.args.self.now.tree in
     ap is_some (c.parent.ensures ∙ (t.inner c.args.v c.requires.child c.requires.node).1)
 
 pub returns : goal.returns
 returns g c =
-    let t = g.H.Host.laws c.args.host.now c.args.n c.requires.tree in
+    let t = g.H.Host.laws c.args.self.now.host.now c.args.self.now.count c.args.self.now.tree in
     let e = sym c.parent.ensures ∙ c.unwrap.ensures in
     record { is = e; less = (child t c.args.v c.unwrap.result e).0 }
