@@ -1,6 +1,9 @@
 -- What is answered about numbers, once the verdict is known and which of them are nodes.
-use Rattle.std.proofs.Common.{◌≡◌, ℕ, ◌<◌, Bool, true, false, cond, ltb, List, [], ◌∷◌, find, nat_le, ⊎_elim, ◌≤◌, Some, None, Option, Ok, Err, Result, sym, refl, ap, arith}
+use Rattle.std.proofs.Common.{◌≡◌, ℕ, ◌<◌, Bool, true, false, cond, ltb, List, [], ◌∷◌, find, nat_le, ⊎_elim, ◌≤◌, Some, None, Option, Ok, Err, Result, sym, refl, ap, ◌∙◌, Iter, Bor, arith}
 use Rattle.std.proofs.lemmas.Bool.{ltb-true, lt-ltb, le-ltb, lt-leb, le-leb, cases_lt}
+use Rattle.std.proofs.iter.Yields.{fronts}
+use Rattle.std.specs.Iterator.{Yields}
+use Rattle.std.specs.Slice.Iter.{iter_rest}
 use Rattle.trees.specs.declared.host.HostFault.{HostFault}
 use Rattle.trees.specs.declared.climb.ClimbRefusal.TheVariants.{NoSuchNode}
 use Rattle.trees.specs.Climbing.{first_missing, unless_missing, about}
@@ -29,3 +32,13 @@ module _ (n : ℕ) where
       go : (o : Option ℕ) → Ok (tt {0}) ≡ unless_missing o (tt {0}) → o ≡ None
       go None e = refl
       go (Some v) e = let z : ◌≡◌ {A = ℕ} 0 1 = cc in absurd (omega arith)
+
+  -- the next item of a slice of nodes is a node
+  pub next_node :
+      (s t u : Iter ℕ) (xs : List (Bor ℕ)) (x : Bor ℕ) → first_missing n (iter_rest s) ≡ None → Yields fronts s xs t → fronts t (Some x) u → x.now < n
+  next_node s t u [] x e y f =
+      let h : iter_rest s ≡ x.now ∷ iter_rest u = ap iter_rest y ∙ f in
+      (split x.now (iter_rest u) (rw h at e)).0
+  next_node s t u (z ∷ xs) x e y f =
+      let h : iter_rest s ≡ z.now ∷ iter_rest y.0 = y.1 in
+      next_node y.0 t u xs x (split z.now (iter_rest y.0) (rw h at e)).1 y.2 f

@@ -1,5 +1,5 @@
 -- The deepest node at or above some nodes.
-use Rattle.std.proofs.Common.{◌≡◌, ℕ, ◌<◌, Bool, true, false, cond, List, [], ◌∷◌, Some, None, Ok, Option, sym, refl, ap, ◌∙◌, ⊎_elim, arith}
+use Rattle.std.proofs.Common.{◌≡◌, ℕ, ◌<◌, Bool, true, false, cond, List, [], ◌∷◌, ◌++◌, Some, None, Ok, Option, sym, refl, ap, ◌∙◌, ⊎_elim, arith}
 use Rattle.std.proofs.lemmas.Bool.{both_ways}
 use Rattle.trees.specs.Tree.{Tree}
 use Rattle.trees.specs.Above.{AtOrAbove, here, up, is_above}
@@ -8,6 +8,12 @@ use Rattle.trees.specs.Climbing.{first_missing, unless_missing}
 use Rattle.trees.proofs.Answering.{split, none_missing}
 use Rattle.trees.proofs.Upward.{child, upward, orphan, rise_none, rise_some}
 use Rattle.trees.proofs.Above.{through, here_or_up, smaller, both, not_above, above_up, passes, passed, root_above}
+
+-- one node more
+pub meet_push : (parent : ℕ → Option ℕ) (u : ℕ) (vs : List ℕ) (v : ℕ) → meet_all parent u (vs ++ (v ∷ [])) ≡ meet_of parent (meet_all parent u vs) v
+unfolding meet_all
+meet_push parent u [] v = refl
+meet_push parent u (w ∷ vs) v = meet_push parent (meet_of parent u w) vs v
 
 module _ {parent : ℕ → Option ℕ} {n : ℕ} (T : Tree parent n) where
   meet_none : (u v : ℕ) → parent u ≡ None → meet_of parent u v ≡ u

@@ -131,11 +131,10 @@ impl<'a, H: Host> Climber<'a, H> {
         requires nodes { first_missing self.now.count others.now ≡ None }
         ensures { result ≡ meet_all (H.parents self.now.host.now) first others.now }
     {
-        let mut meet = first;
-        for v in others {
-            meet = self.meet_two(meet, *v);
-        }
-        meet
+        let further = |meet: u16, v: &u16|
+            requires { (meet < self.now.count) × (v.now < self.now.count) }
+        { self.meet_two(meet, *v) };
+        others.iter().fold(first, further)
     }
 }
 
