@@ -24,14 +24,14 @@ module _ (n : ℕ) where
     where
       go : (b : Bool) → ltb v n ≡ b → cond b (first_missing n vs) (Some v) ≡ None → (v < n) × (first_missing n vs ≡ None)
       go true t e = (ltb-true v n t, e)
-      go false f e = let z : ◌≡◌ {A = ℕ} 0 1 = cc in absurd (omega arith)
+      go false f e = absurd (grind arith)
 
   pub none_missing : (vs : List ℕ) → Ok (tt {0}) ≡ unless_missing (first_missing n vs) (tt {0}) → first_missing n vs ≡ None
   none_missing vs = go (first_missing n vs)
     where
       go : (o : Option ℕ) → Ok (tt {0}) ≡ unless_missing o (tt {0}) → o ≡ None
       go None e = refl
-      go (Some v) e = let z : ◌≡◌ {A = ℕ} 0 1 = cc in absurd (omega arith)
+      go (Some v) e = absurd (grind arith)
 
   -- the next item of a slice of nodes is a node
   pub next_node :

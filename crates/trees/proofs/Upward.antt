@@ -48,7 +48,7 @@ module _ {parent : ℕ → Option ℕ} {n : ℕ} (T : Tree parent n) where
 
   -- a node with no parent is the root
   pub orphan : (v : ℕ) → v < n → parent v ≡ None → v ≡ 0
-  orphan v h e = ⊎_elim (λ z. z) (λ t. let f : parent v ≡ Some t.0 = t.1 in let z : ◌≡◌ {A = ℕ} 0 1 = cc in absurd (omega arith)) (root_or v h)
+  orphan v h e = ⊎_elim (λ z. z) (λ t. let f : parent v ≡ Some t.0 = t.1 in absurd (grind arith)) (root_or v h)
 
   module _ {A : Type 0} (base : ℕ → A) (step : ℕ → ℕ → A → A) where
     enough : (j k v : ℕ) → v ≤ j → v ≤ k → climb parent base step j v ≡ climb parent base step k v

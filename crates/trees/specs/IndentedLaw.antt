@@ -10,11 +10,11 @@ use Rattle.trees.specs.HostLaw.{host_tree}
 use Rattle.trees.specs.Indented.{misplaced, or_else, first_misplaced, unless_misplaced, indented_verdict, nearest, indented_parent}
 
 both_none : (o q : Option ℕ) → or_else o q ≡ None → (o ≡ None) × (q ≡ None)
-both_none (Some v) q e = let z : ◌≡◌ {A = ℕ} 0 1 = cc in absurd (omega arith)
+both_none (Some v) q e = absurd (grind arith)
 both_none None q e = (refl, e)
 
 cond_none : (b : Bool) (v : ℕ) → cond b (Some v) None ≡ None → b ≡ false
-cond_none true v e = let z : ◌≡◌ {A = ℕ} 0 1 = cc in absurd (omega arith)
+cond_none true v e = absurd (grind arith)
 cond_none false v e = refl
 
 -- where no line up to k is misplaced, line v is not
@@ -58,16 +58,16 @@ record Sound (xs : List ℕ) (n : ℕ) : Type 0 where
   none : first_misplaced xs (length xs - 1) ≡ None
 
 unless : (o : Option ℕ) (m n : ℕ) → unless_misplaced o m ≡ Ok n → (o ≡ None) × (m ≡ n)
-unless (Some v) m n e = let z : ◌≡◌ {A = ℕ} 0 1 = cc in absurd (omega arith)
+unless (Some v) m n e = absurd (grind arith)
 unless None m n e = (refl, cc)
 
 -- the tests on the way to Ok
 passed :
     (b c d : Bool) (x y z : HostFault) (o : Option ℕ) (m n : ℕ) → cond b (Err x) (cond c (Err y) (cond d (unless_misplaced o m) (Err z))) ≡ Ok n
     → (b ≡ false) × (c ≡ false) × (d ≡ true) × (o ≡ None) × (m ≡ n)
-passed true c d x y z o m n e = let i : ◌≡◌ {A = ℕ} 0 1 = cc in absurd (omega arith)
-passed false true d x y z o m n e = let i : ◌≡◌ {A = ℕ} 0 1 = cc in absurd (omega arith)
-passed false false false x y z o m n e = let i : ◌≡◌ {A = ℕ} 0 1 = cc in absurd (omega arith)
+passed true c d x y z o m n e = absurd (grind arith)
+passed false true d x y z o m n e = absurd (grind arith)
+passed false false false x y z o m n e = absurd (grind arith)
 passed false false true x y z o m n e = let k = unless o m n e in (refl, refl, refl, k.0, k.1)
 
 sound : (xs : List ℕ) (n : ℕ) → indented_verdict xs ≡ Ok n → Sound xs n

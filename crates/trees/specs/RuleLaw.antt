@@ -18,8 +18,8 @@ below Binary v h = omega arith
 
 -- two tests on the way to Ok
 passed : (b c : Bool) (x y : HostFault) (m n : ℕ) → cond b (Err x) (cond c (Err y) (Ok m)) ≡ Ok n → (b ≡ false) × (c ≡ false) × (m ≡ n)
-passed true c x y m n e = let z : ◌≡◌ {A = ℕ} 0 1 = cc in absurd (omega arith)
-passed false true x y m n e = let z : ◌≡◌ {A = ℕ} 0 1 = cc in absurd (omega arith)
+passed true c x y m n e = absurd (grind arith)
+passed false true x y m n e = absurd (grind arith)
 passed false false x y m n e = (refl, refl, cc)
 
 pub rule_tree : (s : Shape) (m n : ℕ) → rule_verdict m ≡ Ok n → Tree (rule_parent s m) n

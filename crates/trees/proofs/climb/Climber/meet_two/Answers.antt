@@ -20,10 +20,8 @@ loop-left-preserved g c =
       sym (meet_right t c.loop-left.right c.parent-right.result c.parent-right.ensures.is c.loop-left.left l) ∙ c.loop-left.invariant.2,
     )
 
-pub returns : goal.returns
-returns g c =
+pub returns-clause-same : goal.returns-clause-same
+returns-clause-same g c =
     let t = g.H.Host.laws c.args.self.now.host.now c.args.self.now.count c.args.self.now.tree in
     let p = g.H.Host.parents c.args.self.now.host.now in
-    let e : meet_of p c.loop-left.left c.loop-left.right ≡ c.loop-left.left =
-    ap (meet_of p c.loop-left.left) (sym c.loop-left-test.false) ∙ meet_same t c.loop-left.left in
-    record { same = sym e ∙ c.loop-left.invariant.2; node = c.loop-left.invariant.0 }
+    sym (ap (meet_of p c.loop-left.left) (sym c.loop-left-test.false) ∙ meet_same t c.loop-left.left) ∙ c.loop-left.invariant.2

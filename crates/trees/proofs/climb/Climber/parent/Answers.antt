@@ -7,8 +7,7 @@ unwrap-requires g c =
     let t = g.H.Host.laws c.args.self.now.host.now c.args.self.now.count c.args.self.now.tree in
     ap is_some (c.parent.ensures ∙ (t.inner c.args.v c.requires.child c.requires.node).1)
 
-pub returns : goal.returns
-returns g c =
+pub returns-clause-less : goal.returns-clause-less
+returns-clause-less g c =
     let t = g.H.Host.laws c.args.self.now.host.now c.args.self.now.count c.args.self.now.tree in
-    let e = sym c.parent.ensures ∙ c.unwrap.ensures in
-    record { is = e; less = (child t c.args.v c.unwrap.result e).0 }
+    (child t c.args.v c.unwrap.result (sym c.parent.ensures ∙ c.unwrap.ensures)).0
