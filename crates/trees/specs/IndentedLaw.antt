@@ -13,10 +13,6 @@ both_none : (o q : Option ℕ) → or_else o q ≡ None → (o ≡ None) × (q �
 both_none (Some v) q e = absurd (grind arith)
 both_none None q e = (refl, e)
 
-cond_none : (b : Bool) (v : ℕ) → cond b (Some v) None ≡ None → b ≡ false
-cond_none true v e = absurd (grind arith)
-cond_none false v e = refl
-
 -- where no line up to k is misplaced, line v is not
 placed : (xs : List ℕ) (k : ℕ) → first_misplaced xs k ≡ None → (v : ℕ) → 1 ≤ v → v ≤ k → misplaced xs v ≡ false
 placed xs zero e v a b = absurd (omega arith)
@@ -24,16 +20,12 @@ placed xs (suc k) e v a b =
     let s = both_none (first_misplaced xs k) (cond (misplaced xs (suc k)) (Some (suc k)) None) e in
     ⊎_elim
     (λ (h : v < suc k). placed xs k s.0 v a (omega arith))
-    (λ (h : suc k ≤ v). let i : suc k ≡ v = omega arith in subst (λ (j : ℕ). misplaced xs j ≡ false) i (cond_none (misplaced xs (suc k)) (suc k) s.1))
+    (λ (h : suc k ≤ v). let i : suc k ≡ v = omega arith in subst (λ (j : ℕ). misplaced xs j ≡ false) i (let n : cond (misplaced xs (suc k)) (Some (suc k)) None ≡ None = s.1 in grind arith))
     (cases_lt v (suc k))
 
 -- a line that is not misplaced has level 1 at least, and at most one more than the line before
 steps : (xs : List ℕ) (v : ℕ) → misplaced xs v ≡ false → (1 ≤ slice_index xs v) × (slice_index xs v ≤ slice_index xs (v - 1) + 1)
-steps xs v e =
-    let p = or_parts (slice_index xs v == 0) (nat_lt (slice_index xs (v - 1) + 1) (slice_index xs v)) e in
-    let a = eqb-false (slice_index xs v) 0 p.0 in
-    let b = ltb-false (slice_index xs (v - 1) + 1) (slice_index xs v) p.1 in
-    (omega arith, omega arith)
+steps xs v e = (grind (arith, or_parts, eqb-false), grind (arith, or_parts, ltb-false))
 
 -- each level from 1 to one more than line k's is one more than that of some line up to k
 finds :
@@ -57,28 +49,15 @@ record Sound (xs : List ℕ) (n : ℕ) : Type 0 where
   first : slice_index_or xs 0 0 ≡ 0
   none : first_misplaced xs (length xs - 1) ≡ None
 
-unless : (o : Option ℕ) (m n : ℕ) → unless_misplaced o m ≡ Ok n → (o ≡ None) × (m ≡ n)
-unless (Some v) m n e = absurd (grind arith)
-unless None m n e = (refl, cc)
-
--- the tests on the way to Ok
-passed :
-    (b c d : Bool) (x y z : HostFault) (o : Option ℕ) (m n : ℕ) → cond b (Err x) (cond c (Err y) (cond d (unless_misplaced o m) (Err z))) ≡ Ok n
-    → (b ≡ false) × (c ≡ false) × (d ≡ true) × (o ≡ None) × (m ≡ n)
-passed true c d x y z o m n e = absurd (grind arith)
-passed false true d x y z o m n e = absurd (grind arith)
-passed false false false x y z o m n e = absurd (grind arith)
-passed false false true x y z o m n e = let k = unless o m n e in (refl, refl, refl, k.0, k.1)
-
 sound : (xs : List ℕ) (n : ℕ) → indented_verdict xs ≡ Ok n → Sound xs n
 sound xs n e =
-    let k =
-    passed (length xs == 0) (nat_lt most_nodes (length xs)) (slice_index xs 0 == 0) (fault Empty 0) (fault TooMany most_nodes)
-    (fault FirstLevel 0) (first_misplaced xs (length xs - 1)) (length xs) n e in
-    let a = eqb-false (length xs) 0 k.0 in
-    let b = ltb-false most_nodes (length xs) k.1 in
-    let c : length xs ≡ n = k.4 in
-    record { count = c; some = omega arith; few = omega arith; first = eqb-true (slice_index xs 0) 0 k.2; none = k.3 }
+    record {
+      count = grind (arith, eqb-false, ltb-false);
+      some = grind (arith, eqb-false, ltb-false);
+      few = grind (arith, eqb-false, ltb-false);
+      first = grind (arith, eqb-true, ltb-false);
+      none = grind (arith, eqb-false, ltb-false);
+    }
 
 has_parent : (xs : List ℕ) (n : ℕ) → Sound xs n → (v : ℕ) → 1 ≤ v → v < n → (u : ℕ) × (nearest xs (slice_index xs v) v ≡ Some u) × (u < v)
 has_parent xs n s v a b =

@@ -16,16 +16,8 @@ below Chain v h = omega arith
 below Star v h = omega arith
 below Binary v h = omega arith
 
--- two tests on the way to Ok
-passed : (b c : Bool) (x y : HostFault) (m n : ℕ) → cond b (Err x) (cond c (Err y) (Ok m)) ≡ Ok n → (b ≡ false) × (c ≡ false) × (m ≡ n)
-passed true c x y m n e = absurd (grind arith)
-passed false true x y m n e = absurd (grind arith)
-passed false false x y m n e = (refl, refl, cc)
-
 pub rule_tree : (s : Shape) (m n : ℕ) → rule_verdict m ≡ Ok n → Tree (rule_parent s m) n
 rule_tree s m n e =
-    let k = passed (m == 0) (nat_lt most_nodes m) (fault Empty 0) (fault TooMany 0) m n e in
-    let a = eqb-false m 0 k.0 in
-    let b = ltb-false most_nodes m k.1 in
-    let c : m ≡ n = k.2 in
-    host_tree (rule_verdict m) n (λ v. Some (parent_by s v)) e (omega arith) (omega arith) (λ v i j. (parent_by s v, refl, below s v i))
+    let some : 1 ≤ n = grind (arith, eqb-false, ltb-false) in
+    let few : n ≤ most_nodes = grind (arith, eqb-false, ltb-false) in
+    host_tree (rule_verdict m) n (λ v. Some (parent_by s v)) e some few (λ v i j. (parent_by s v, refl, below s v i))
