@@ -11,27 +11,15 @@ use Rattle.trees.specs.Climbing.{first_missing, unless_missing, about}
 -- the first number that is no node, as a search finds it
 pub find_missing : (n : ℕ) (vs : List ℕ) → find (λ v. nat_le n v) vs ≡ first_missing n vs
 find_missing n [] = refl
-find_missing n (v ∷ vs) =
-    ⊎_elim
-    (λ (h : v < n). rw (lt-ltb v n h, lt-leb n v h, find_missing n vs) refl)
-    (λ (h : n ≤ v). rw (le-ltb v n h, le-leb n v h) refl)
-    (cases_lt v n)
+find_missing n (v ∷ vs) = let more = find_missing n vs in grind (arith, lt-ltb, lt-leb, le-ltb, le-leb)
 
 module _ (n : ℕ) where
   -- where no number of a list is missing, the first is a node, and none of the others is missing
   pub split : (v : ℕ) (vs : List ℕ) → first_missing n (v ∷ vs) ≡ None → (v < n) × (first_missing n vs ≡ None)
-  split v vs = go (ltb v n) refl
-    where
-      go : (b : Bool) → ltb v n ≡ b → cond b (first_missing n vs) (Some v) ≡ None → (v < n) × (first_missing n vs ≡ None)
-      go true t e = (ltb-true v n t, e)
-      go false f e = absurd (grind arith)
+  split v vs e = (grind (arith, le-ltb), grind (arith, le-ltb))
 
   pub none_missing : (vs : List ℕ) → Ok (tt {0}) ≡ unless_missing (first_missing n vs) (tt {0}) → first_missing n vs ≡ None
-  none_missing vs = go (first_missing n vs)
-    where
-      go : (o : Option ℕ) → Ok (tt {0}) ≡ unless_missing o (tt {0}) → o ≡ None
-      go None e = refl
-      go (Some v) e = absurd (grind arith)
+  none_missing vs e = grind arith
 
   -- the next item of a slice of nodes is a node
   pub next_node :

@@ -8,25 +8,12 @@ use Rattle.trees.specs.Order.{Depths}
 module _ {parent : ℕ → Option ℕ} {n : ℕ} (T : Tree parent n) where
   -- what has a parent is a node, and the parent has a smaller number
   pub child : (v p : ℕ) → parent v ≡ Some p → (p < v) × (v < n)
-  child zero p e =
-      let r : parent 0 ≡ None = T.root in
-      let z : ◌≡◌ {A = ℕ} 0 1 = cc in
-      absurd (omega arith)
-  child (suc w) p e = ⊎_elim inside outside (cases_lt (suc w) n)
-    where
-      inside : suc w < n → (p < suc w) × (suc w < n)
-      inside h =
-          let i = T.inner (suc w) (omega arith) h in
-          let e' : parent (suc w) ≡ Some i.0 = i.1 in
-          let s : i.0 ≡ p = cc in
-          let l : i.0 < suc w = i.2 in
-          (omega arith, h)
-
-      outside : n ≤ suc w → (p < suc w) × (suc w < n)
-      outside h =
-          let r : parent (suc w) ≡ None = T.outer (suc w) h in
-          let z : ◌≡◌ {A = ℕ} 0 1 = cc in
-          absurd (omega arith)
+  child zero p e = let r = T.root in absurd (grind arith)
+  child (suc w) p e =
+      ⊎_elim
+      (λ (h : suc w < n). let i = T.inner (suc w) (omega arith) h in let s : i.0 ≡ p = grind arith in (omega (arith, i.2), h))
+      (λ (h : n ≤ suc w). let r = T.outer (suc w) h in absurd (grind arith))
+      (cases_lt (suc w) n)
 
   -- induction
   pub upward :
@@ -48,7 +35,7 @@ module _ {parent : ℕ → Option ℕ} {n : ℕ} (T : Tree parent n) where
 
   -- a node with no parent is the root
   pub orphan : (v : ℕ) → v < n → parent v ≡ None → v ≡ 0
-  orphan v h e = ⊎_elim (λ z. z) (λ t. let f : parent v ≡ Some t.0 = t.1 in absurd (grind arith)) (root_or v h)
+  orphan v h e = ⊎_elim (λ z. z) (λ t. let f = t.1 in absurd (grind arith)) (root_or v h)
 
   module _ {A : Type 0} (base : ℕ → A) (step : ℕ → ℕ → A → A) where
     enough : (j k v : ℕ) → v ≤ j → v ≤ k → climb parent base step j v ≡ climb parent base step k v
