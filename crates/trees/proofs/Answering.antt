@@ -1,12 +1,10 @@
 -- What is answered about numbers, once the verdict is known and which of them are nodes.
-use Rattle.std.proofs.Common.{◌≡◌, ℕ, ◌<◌, Bool, true, false, cond, ltb, List, [], ◌∷◌, find, nat_le, ⊎_elim, ◌≤◌, Some, None, Option, Ok, Err, Result, sym, refl, ap, ◌∙◌, Iter, Bor, arith}
-use Rattle.std.proofs.lemmas.Bool.{ltb-true, lt-ltb, le-ltb, lt-leb, le-leb, cases_lt}
+use Rattle.std.proofs.Common.{◌≡◌, ℕ, ◌<◌, List, [], ◌∷◌, find, nat_le, Some, None, Ok, refl, ap, ◌∙◌, Iter, Bor, arith}
+use Rattle.std.proofs.lemmas.Bool.{lt-ltb, le-ltb, lt-leb, le-leb}
 use Rattle.std.proofs.iter.Yields.{fronts}
 use Rattle.std.specs.Iterator.{Yields}
 use Rattle.std.specs.Slice.Iter.{iter_rest}
-use Rattle.trees.specs.declared.host.HostFault.{HostFault}
-use Rattle.trees.specs.declared.climb.ClimbRefusal.TheVariants.{NoSuchNode}
-use Rattle.trees.specs.Climbing.{first_missing, unless_missing, about}
+use Rattle.trees.specs.Climbing.{first_missing, unless_missing}
 
 -- the first number that is no node, as a search finds it
 pub find_missing : (n : ℕ) (vs : List ℕ) → find (λ v. nat_le n v) vs ≡ first_missing n vs
@@ -14,6 +12,9 @@ find_missing n [] = refl
 find_missing n (v ∷ vs) = let more = find_missing n vs in grind (arith, lt-ltb, lt-leb, le-ltb, le-leb)
 
 module _ (n : ℕ) where
+  pub present : (v : ℕ) (vs : List ℕ) → v < n → first_missing n (v ∷ vs) ≡ first_missing n vs
+  present v vs h = rw (lt-ltb v n h) refl
+
   -- where no number of a list is missing, the first is a node, and none of the others is missing
   pub split : (v : ℕ) (vs : List ℕ) → first_missing n (v ∷ vs) ≡ None → (v < n) × (first_missing n vs ≡ None)
   split v vs e = (grind (arith, le-ltb), grind (arith, le-ltb))

@@ -85,7 +85,7 @@ module _ {parent : ℕ → Option ℕ} {n : ℕ} (T : Tree parent n) where
   pub node : {a v : ℕ} → v < n → AtOrAbove parent a v → a < n
   node h k = let l = smaller T k in omega arith
 
-  several : (u : ℕ) (vs : List ℕ) → u < n → first_missing n vs ≡ None → Deepest parent (u ∷ vs) (meet_all parent u vs)
+  pub several : (u : ℕ) (vs : List ℕ) → u < n → first_missing n vs ≡ None → Deepest parent (u ∷ vs) (meet_all parent u vs)
   unfolding meet_all
   several u [] hu e = alone u
   several u (v ∷ vs) hu e =

@@ -1,13 +1,10 @@
 -- The proof that a host of indented lines obeys the law of hosts. Nothing here need be believed.
-use Rattle.std.specs.Prelude.{◌≡◌, ℕ, zero, suc, ◌+◌, ◌-◌, ◌<◌, ◌≤◌, Bool, true, false, cond, List, length, Some, None, Ok, Err, Option, ◌==◌, nat_lt, slice_index, slice_index_or, refl}
+use Rattle.std.specs.Prelude.{◌≡◌, ℕ, zero, suc, ◌+◌, ◌-◌, ◌<◌, ◌≤◌, false, cond, List, length, Some, None, Ok, Option, slice_index, slice_index_or, refl}
 use Rattle.std.proofs.Common.{ap, subst, ◌∙◌, ⊎_elim, arith}
 use Rattle.std.proofs.lemmas.Bool.{eqb-true, eqb-false, ltb-false, or_parts, cases_lt, cases_eq, eq-eqb, ne_eqb}
-use Rattle.trees.specs.declared.host.FaultKind.TheVariants.{Empty, TooMany, FirstLevel}
-use Rattle.trees.specs.declared.host.HostFault.{HostFault}
 use Rattle.trees.specs.Tree.{Tree, most_nodes}
-use Rattle.trees.specs.Fault.{fault}
 use Rattle.trees.specs.HostLaw.{host_tree}
-use Rattle.trees.specs.Indented.{misplaced, or_else, first_misplaced, unless_misplaced, indented_verdict, nearest, indented_parent}
+use Rattle.trees.specs.Indented.{misplaced, or_else, first_misplaced, indented_verdict, nearest, indented_parent}
 
 both_none : (o q : Option ℕ) → or_else o q ≡ None → (o ≡ None) × (q ≡ None)
 both_none (Some v) q e = absurd (grind arith)

@@ -1,13 +1,10 @@
 -- The proof that a host by a rule obeys the law of hosts. Nothing here need be believed.
-use Rattle.std.specs.Prelude.{◌≡◌, ℕ, ◌<◌, ◌≤◌, Bool, true, false, cond, Some, Ok, Err, ◌==◌, nat_lt, refl}
+use Rattle.std.specs.Prelude.{◌≡◌, ℕ, ◌<◌, ◌≤◌, Some, Ok, refl}
 use Rattle.std.proofs.Common.{arith}
 use Rattle.std.proofs.lemmas.Bool.{eqb-false, ltb-false}
-use Rattle.trees.specs.declared.host.FaultKind.TheVariants.{Empty, TooMany}
-use Rattle.trees.specs.declared.host.HostFault.{HostFault}
 use Rattle.trees.specs.declared.rule.Shape.{Shape}
 use Rattle.trees.specs.declared.rule.Shape.TheVariants.{Chain, Star, Binary}
 use Rattle.trees.specs.Tree.{Tree, most_nodes}
-use Rattle.trees.specs.Fault.{fault}
 use Rattle.trees.specs.HostLaw.{host_tree}
 use Rattle.trees.specs.Rule.{rule_verdict, parent_by, rule_parent}
 

@@ -69,7 +69,7 @@ impl<'a, H: Host> Climber<'a, H> {
         }
     }
 
-    // How many steps a node is below the root.
+    // How many steps a node is below the root. A loop, since an iterator of ancestors would serve this count alone and be longer.
     fn depth(&self, v: u16) -> u16
         ensures { result ≡ depth_of (H.parents self.now.host.now) v }
     {
@@ -83,6 +83,7 @@ impl<'a, H: Host> Climber<'a, H> {
     }
 
     // Whether a is node v or stands above it: what stands above has a smaller number, so the climb stops at a or passes it.
+    // A loop: `find` on an iterator of ancestors would have to ask again whether it found a or passed it.
     fn reaches(&self, a: u16, v: u16) -> bool
         ensures { result ≡ is_above (H.parents self.now.host.now) a v }
     {
@@ -96,17 +97,8 @@ impl<'a, H: Host> Climber<'a, H> {
         node == a
     }
 
-    // The parent of a node other than the root.
-    fn parent(&self, v: u16) -> u16
-        requires node { v < self.now.count }
-        requires child { 1 ≤ v }
-        ensures is { H.parents self.now.host.now v ≡ Some result }
-        ensures less { result < v }
-    {
-        self.host.parent(v).unwrap()
-    }
-
     // The deepest node at or above two nodes: the one with the greater number does not stand above the other, so it climbs.
+    // A loop, since two nodes climb by turns.
     fn meet_two(&self, a: u16, b: u16) -> u16
         requires first { a < self.now.count }
         requires second { b < self.now.count }
@@ -117,9 +109,9 @@ impl<'a, H: Host> Climber<'a, H> {
         let mut right = b;
         while left != right {
             if left > right {
-                left = self.parent(left);
+                left = self.host.parent(left).unwrap();
             } else {
-                right = self.parent(right);
+                right = self.host.parent(right).unwrap();
             }
         }
         left

@@ -1,5 +1,4 @@
-use Rattle.std.proofs.Common.{◌≡◌, sym, ◌∙◌, arith}
-use Rattle.trees.specs.Above.{depth_of}
+use Rattle.std.proofs.Common.{sym, ◌∙◌, arith}
 use Rattle.trees.proofs.Upward.{child, depth_none, depth_some, depth_small}
 use Rattle.trees.proofs.climb.Climber.depth.Goals as goal
 
