@@ -70,6 +70,14 @@ pub struct Chains<'a> {
     ghost weighed: { length weight.now ≡ length next.now },
 }
 
+// What words are made in: a list for the weights along one chain, and the rows that the words go to, of as many numbers each.
+#[derive(Drop)]
+pub struct Desk<'a> {
+    pub list: &'a mut [u16],
+    pub words: WordRows<'a>,
+    pub ghost wide: { Wide (length list.now) words.high.now words.low.now words.len.now },
+}
+
 // Puts the weights of the nodes along the links into a list, and tells how many there are.
 fn list_weights(chains: &Chains, from: usize, list: &mut [u16]) -> usize
     requires inside { from < length chains.now.next.now }
@@ -104,20 +112,13 @@ fn put_words<C: Code>(code: &C, chains: &Chains, from: usize, list: &[u16], word
 }
 
 // Stores at each node along the links the word of its weight among theirs.
-pub fn code_chain<C: Code>(
-    code: &C,
-    chains: &Chains,
-    from: usize,
-    list: &mut [u16],
-    words: &mut WordRows,
-)
+pub fn code_chain<C: Code>(code: &C, chains: &Chains, from: usize, desk: &mut Desk)
     requires inside { from < length chains.now.next.now }
-    requires room { length list.old ≡ length chains.now.next.now }
-    requires wide { Wide (length chains.now.next.now) words.old.high.now words.old.low.now words.old.len.now }
+    requires room { length desk.old.list.now ≡ length chains.now.next.now }
     requires fine { Weights (map (at chains.now.weight.now) (chain chains.now.next.now from)) }
-    ensures stored { Stored (C.words code.now (map (at chains.now.weight.now) (chain chains.now.next.now from))) (chain chains.now.next.now from) words.old.high.now words.old.low.now words.old.len.now words.new.high.now words.new.low.now words.new.len.now }
-    ensures wide { Wide (length chains.now.next.now) words.new.high.now words.new.low.now words.new.len.now }
+    ensures stored { Stored (C.words code.now (map (at chains.now.weight.now) (chain chains.now.next.now from))) (chain chains.now.next.now from) desk.old.words.high.now desk.old.words.low.now desk.old.words.len.now desk.new.words.high.now desk.new.words.low.now desk.new.words.len.now }
+    ensures room { length desk.new.list.now ≡ length chains.now.next.now }
 {
-    let many = list_weights(chains, from, list);
-    put_words(code, chains, from, &list[..many], words);
+    let many = list_weights(chains, from, desk.list);
+    put_words(code, chains, from, &desk.list[..many], &mut desk.words);
 }

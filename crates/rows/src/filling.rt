@@ -3,6 +3,7 @@ ghost use Rattle.std.specs.Prelude.{◌≡◌, length, Ok};
 ghost use Rattle.rows.specs.Rows.{parents_in};
 
 use crate::carrier::Rows;
+use crate::chains::Desk;
 use crate::finished::{Marks, TreeWords};
 use crate::growth::{Grown, heavies, lights, sizes};
 use crate::marks::{counts, depths, tops};
@@ -26,17 +27,27 @@ pub fn fill<'a, H: Host, C: Code>(host: &H, code: &'a C, rows: Rows<'a>) -> Mark
         light,
         next,
         list,
-        mut path,
-        mut branch,
+        path,
+        branch,
     } = rows;
     let up = gather(host, parent);
     sizes(&up, size);
     heavies(&up, size, heavy);
     let grown = Grown { up, size, heavy };
     lights(&grown, light);
-    path_words(code, &grown, light, list, &mut path);
+    let mut desk = Desk { list, words: path };
+    path_words(code, &grown, light, &mut desk);
+    let Desk { list, words: path } = desk;
     link_light(&grown, light, next);
-    branch_words(code, &grown, light, next, list, &mut branch);
+    let mut desk = Desk {
+        list,
+        words: branch,
+    };
+    branch_words(code, &grown, light, next, &mut desk);
+    let Desk {
+        list,
+        words: branch,
+    } = desk;
     tops(&grown, light);
     depths(&up, next);
     let words = TreeWords {

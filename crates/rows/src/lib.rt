@@ -3,7 +3,7 @@
 #![tactic(auto)]
 
 pub mod carrier;
-pub mod chains;
+mod chains;
 pub mod filling;
 pub mod finished;
 mod growth;

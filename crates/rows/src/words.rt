@@ -1,27 +1,24 @@
 // Path words and branch words.
 ghost use Rattle.std.specs.Prelude.{◌≡◌, ℕ, ◌<◌, length};
-ghost use Rattle.rows.specs.Chains.{Rising, Wide, at};
+ghost use Rattle.rows.specs.Chains.{Rising, at};
 ghost use Rattle.rows.specs.Rows.{LightRow, PathRows, LightLinks, BranchRows};
 
-use crate::chains::{Chains, code_chain, link};
+use crate::chains::{Chains, Desk, code_chain, link};
 use crate::growth::Grown;
 use codes::code::Code;
-use codes::rows::WordRows;
 
 // The path word of each node.
 pub fn path_words<C: Code>(
     code: &C,
     grown: &Grown,
     light: &[u16],
-    list: &mut [u16],
-    words: &mut WordRows,
+    desk: &mut Desk,
 )
     requires lights { length light.now ≡ length grown.now.up.row.now }
     requires weighed { LightRow grown.now.up.row.now light.now }
-    requires room { length list.old ≡ length grown.now.up.row.now }
-    requires wide { Wide (length grown.now.up.row.now) words.old.high.now words.old.low.now words.old.len.now }
-    ensures paths { PathRows (C.words code.now) grown.now.up.row.now words.new.high.now words.new.low.now words.new.len.now }
-    ensures wide { Wide (length grown.now.up.row.now) words.new.high.now words.new.low.now words.new.len.now }
+    requires room { length desk.old.list.now ≡ length grown.now.up.row.now }
+    ensures paths { PathRows (C.words code.now) grown.now.up.row.now desk.new.words.high.now desk.new.words.low.now desk.new.words.len.now }
+    ensures room { length desk.new.list.now ≡ length grown.now.up.row.now }
 {
     let paths = Chains {
         next: grown.heavy,
@@ -30,7 +27,7 @@ pub fn path_words<C: Code>(
     for t in 0..grown.up.row.len() {
         // A node that is no heavy child begins a path.
         if !grown.is_heavy(t) {
-            code_chain(code, &paths, t, list, words);
+            code_chain(code, &paths, t, desk);
         }
     }
 }
@@ -41,18 +38,16 @@ pub fn branch_words<C: Code>(
     grown: &Grown,
     first: &[u16],
     next: &[u16],
-    list: &mut [u16],
-    words: &mut WordRows,
+    desk: &mut Desk,
 )
     requires firsts { length first.now ≡ length grown.now.up.row.now }
     requires nexts { length next.now ≡ length grown.now.up.row.now }
     requires rising { Rising next.now }
     requires linked { LightLinks grown.now.up.row.now first.now next.now }
     requires inside { (p : ℕ) → p < length grown.now.up.row.now → at first.now p < length grown.now.up.row.now }
-    requires room { length list.old ≡ length grown.now.up.row.now }
-    requires wide { Wide (length grown.now.up.row.now) words.old.high.now words.old.low.now words.old.len.now }
-    ensures branches { BranchRows (C.words code.now) grown.now.up.row.now words.new.high.now words.new.low.now words.new.len.now }
-    ensures wide { Wide (length grown.now.up.row.now) words.new.high.now words.new.low.now words.new.len.now }
+    requires room { length desk.old.list.now ≡ length grown.now.up.row.now }
+    ensures branches { BranchRows (C.words code.now) grown.now.up.row.now desk.new.words.high.now desk.new.words.low.now desk.new.words.len.now }
+    ensures room { length desk.new.list.now ≡ length grown.now.up.row.now }
 {
     let lists = Chains {
         next,
@@ -60,7 +55,7 @@ pub fn branch_words<C: Code>(
     };
     for number in first {
         if let Some(c) = link(*number) {
-            code_chain(code, &lists, c, list, words);
+            code_chain(code, &lists, c, desk);
         }
     }
 }

@@ -23,20 +23,19 @@ loop-number-preserved g c =
     let t = c.args.grown.now in
     let p = c.loop-number.number-index in
     let l : c.loop-number.number-index < length c.args.grown.now.up.row.now = omega arith in
-    let a = c.loop-number.words in
+    let a = c.loop-number.desk.words in
     elim c.match-link.branch [
       | in-Some w ↦
           let k = link_some (at c.args.first.now p) w.in-Some.c w.in-Some.ensures in
-          let b = w.code_chain.new.words in
-          let e = w.code_chain.ensures.wide in
-          let s = subst (λ (x : ℕ). Stored (g.C.Code.words c.args.code.now (map (at c.args.grown.now.size.now) (chain c.args.next.now x))) (chain c.args.next.now x) c.loop-number.words.high.now c.loop-number.words.low.now c.loop-number.words.len.now w.code_chain.new.words.high.now w.code_chain.new.words.low.now w.code_chain.new.words.len.now) k.0 w.code_chain.ensures.stored in
-          rw w.words-is (record {
-            wide = (omega (arith, e.0), omega (arith, e.1), omega (arith, e.2));
+          let b = w.code_chain.new.desk.words in
+          let s = subst (λ (x : ℕ). Stored (g.C.Code.words c.args.code.now (map (at c.args.grown.now.size.now) (chain c.args.next.now x))) (chain c.args.next.now x) c.loop-number.desk.words.high.now c.loop-number.desk.words.low.now c.loop-number.desk.words.len.now w.code_chain.new.desk.words.high.now w.code_chain.new.desk.words.low.now w.code_chain.new.desk.words.len.now) k.0 w.code_chain.ensures.stored in
+          rw w.desk-is (record {
+            room = omega (arith, w.code_chain.ensures.room);
             stored = branch_turn t.up.row.now t.size.now c.args.first.now c.args.next.now t.up.rooted t.sized c.requires.linked p l f a.high.now a.low.now a.len.now b.high.now b.low.now b.len.now k.1 s c.loop-number.invariant.stored;
           })
       | in_default w ↦
-          rw w.words-is (record {
-            wide = c.loop-number.invariant.wide;
+          rw w.desk-is (record {
+            room = c.loop-number.invariant.room;
             stored = branch_skip t.up.row.now t.size.now c.args.first.now c.args.next.now t.up.rooted t.sized c.requires.linked p l f a.high.now a.low.now a.len.now (link_none (at c.args.first.now p) w.in_default.ensures) c.loop-number.invariant.stored;
           })
     ]

@@ -21,20 +21,19 @@ loop-t-preserved g c =
     let t = c.args.grown.now in
     let light = c.args.light.now in
     let l : c.loop-t.t < length c.args.grown.now.up.row.now = omega arith in
-    let a = c.loop-t.words in
+    let a = c.loop-t.desk.words in
     elim c.if-not-is_heavy.branch [
       | then-not-is_heavy w ↦
-          let b = w.code_chain.new.words in
-          let e = w.code_chain.ensures.wide in
+          let b = w.code_chain.new.desk.words in
           let begin = begins t.up.row.now t.heavy.now t.up.rooted t.chosen t.heavies c.loop-t.t l (c.is_heavy.ensures.if_false w.if-not-is_heavy.true) in
-          rw w.words-is (record {
-            wide = (omega (arith, t.heavies, e.0), omega (arith, t.heavies, e.1), omega (arith, t.heavies, e.2));
+          rw w.desk-is (record {
+            room = omega (arith, t.heavies, w.code_chain.ensures.room);
             stored = path_turn t.up.row.now t.heavy.now light t.up.rooted t.chosen t.heavies c.requires.weighed f c.loop-t.t l a.high.now a.low.now a.len.now b.high.now b.low.now b.len.now begin w.code_chain.ensures.stored c.loop-t.invariant.stored;
           })
       | else-not-is_heavy w ↦
           let h = c.is_heavy.ensures.if_true w.if-not-is_heavy.false in
-          rw w.words-is (record {
-            wide = c.loop-t.invariant.wide;
+          rw w.desk-is (record {
+            room = c.loop-t.invariant.room;
             stored = path_skip t.up.row.now t.heavy.now light t.up.rooted t.chosen t.heavies c.requires.weighed f c.loop-t.t l a.high.now a.low.now a.len.now h.0 h.1 c.loop-t.invariant.stored;
           })
     ]
