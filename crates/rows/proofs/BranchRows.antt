@@ -25,6 +25,11 @@ unfolding run
 run_some zero next c = omega arith
 run_some (suc k) next c = omega arith
 
+run_first : (k : ℕ) (next : List ℕ) (c : ℕ) → at (run k next c) 0 ≡ c
+unfolding run
+run_first zero next c = refl
+run_first (suc k) next c = refl
+
 -- whatever is among those that pass a test is small and passes
 pub those_in : (k : ℕ) (t : ℕ → Bool) (i : ℕ) → i < length (those k t) → (at (those k t) i < k) × (t (at (those k t) i) ≡ true)
 unfolding those
@@ -62,6 +67,13 @@ module _ (up size_row first next : List ℕ) (r : Rooted up) (S : SizeRow up siz
       ap (map (at size_row)) (some_here ne)
       ∙ map_same (at size_row) (size (parents_in up) (length up)) (those (length up) (is_light (parents_in up) (length up) p))
       (λ i h. S _ (those_in (length up) (is_light (parents_in up) (length up) p) i h).0)
+
+  pub branch_in : (at first p ≡ 0 → ⊥) → at first p < length up
+  branch_in ne =
+      let any' : 0 < length (those (length up) (is_light (parents_in up) (length up) p)) = rw (some_here ne) at (run_some (length next) next (at first p)) in
+      let i = those_in (length up) (is_light (parents_in up) (length up) p) 0 any' in
+      let h : at (those (length up) (is_light (parents_in up) (length up) p)) 0 ≡ at first p = ap (λ xs. at xs 0) (sym (some_here ne)) ∙ run_first (length next) next (at first p) in
+      omega (arith, i.0)
 
   pub branch_fine : (at first p ≡ 0 → ⊥) → Weights (map (at size_row) (chain next (at first p)))
   branch_fine ne =

@@ -8,7 +8,7 @@ use crate::finished::{Marks, TreeWords};
 use crate::growth::{Grown, heavies, lights, sizes};
 use crate::marks::{counts, depths, tops};
 use crate::parents::gather;
-use crate::words::{branch_words, link_light, path_words};
+use crate::words::{Linked, Weighed, branch_words, link_light, path_words};
 use codes::code::Code;
 use trees::host::Host;
 
@@ -36,14 +36,19 @@ pub fn fill<'a, H: Host, C: Code>(host: &H, code: &'a C, rows: Rows<'a>) -> Mark
     let grown = Grown { up, size, heavy };
     lights(&grown, light);
     let mut desk = Desk { list, words: path };
-    path_words(code, &grown, light, &mut desk);
+    path_words(code, &Weighed { grown, light }, &mut desk);
     let Desk { list, words: path } = desk;
     link_light(&grown, light, next);
     let mut desk = Desk {
         list,
         words: branch,
     };
-    branch_words(code, &grown, light, next, &mut desk);
+    let linked = Linked {
+        grown,
+        first: light,
+        next,
+    };
+    branch_words(code, &linked, &mut desk);
     let Desk {
         list,
         words: branch,
@@ -53,20 +58,22 @@ pub fn fill<'a, H: Host, C: Code>(host: &H, code: &'a C, rows: Rows<'a>) -> Mark
     let words = TreeWords {
         code,
         up,
+        top: light,
         path,
         branch,
     };
-    counts(&words, light, list, size);
+    counts(&words, list, size);
     let TreeWords {
         code,
         up,
+        top,
         path,
         branch,
     } = words;
     Marks {
         code,
         up,
-        top: light,
+        top,
         depth: next,
         bits: list,
         fields: size,

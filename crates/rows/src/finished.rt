@@ -6,19 +6,22 @@ use crate::parents::Parents;
 use codes::code::Code;
 use codes::rows::WordRows;
 
-// The words of a tree under a code: the path word of each node, and the branch word of each light child.
+// The path tops of a tree, and its words under a code: the path word of each node, and the branch word of each light child.
 #[derive(Drop)]
 pub struct TreeWords<'a, C: Code> {
     pub code: &'a C,
     pub up: Parents<'a>,
+    pub top: &'a [u16],
     pub path: WordRows<'a>,
     pub branch: WordRows<'a>,
+    pub ghost tops: { length top.now ≡ length up.row.now },
     pub ghost phs: { length path.high.now ≡ length up.row.now },
     pub ghost pls: { length path.low.now ≡ length up.row.now },
     pub ghost pns: { length path.len.now ≡ length up.row.now },
     pub ghost bhs: { length branch.high.now ≡ length up.row.now },
     pub ghost bls: { length branch.low.now ≡ length up.row.now },
     pub ghost bns: { length branch.len.now ≡ length up.row.now },
+    pub ghost topped: { TopRow up.row.now top.now },
     pub ghost paths: { PathRows (C.words code.now) up.row.now path.high.now path.low.now path.len.now },
     pub ghost branches: { BranchRows (C.words code.now) up.row.now branch.high.now branch.low.now branch.len.now },
 }

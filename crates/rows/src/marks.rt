@@ -32,15 +32,13 @@ pub fn depths(up: &Parents, depth: &mut [u16])
 }
 
 // How many bits and how many fields each node's label has.
-pub fn counts<C: Code>(words: &TreeWords<C>, top: &[u16], bits: &mut [u16], fields: &mut [u16])
-    requires tops { length top.now ≡ length words.now.up.row.now }
-    requires topped { TopRow words.now.up.row.now top.now }
+pub fn counts<C: Code>(words: &TreeWords<C>, bits: &mut [u16], fields: &mut [u16])
     requires bitses { length bits.old ≡ length words.now.up.row.now }
     requires fieldses { length fields.old ≡ length words.now.up.row.now }
     ensures counted { BitsRow (C.words words.now.code.now) words.now.up.row.now bits.new }
     ensures numbered { FieldsRow (C.words words.now.code.now) words.now.up.row.now fields.new }
 {
-    for (v, t) in top.iter().enumerate() {
+    for (v, t) in words.top.iter().enumerate() {
         let t = *t as usize;
         if t == 0 {
             bits[v] = words.path.len[v];

@@ -1,28 +1,43 @@
 // Path words and branch words.
-ghost use Rattle.std.specs.Prelude.{◌≡◌, ℕ, ◌<◌, length};
-ghost use Rattle.rows.specs.Chains.{Rising, at};
+ghost use Rattle.std.specs.Prelude.{◌≡◌, length};
+ghost use Rattle.rows.specs.Chains.{Rising};
 ghost use Rattle.rows.specs.Rows.{LightRow, PathRows, LightLinks, BranchRows};
 
 use crate::chains::{Chains, Desk, code_chain, link};
 use crate::growth::Grown;
 use codes::code::Code;
 
+// A tree with the light size of each node.
+#[derive(Clone, Copy)]
+pub struct Weighed<'a> {
+    pub grown: Grown<'a>,
+    pub light: &'a [u16],
+    pub ghost lights: { length light.now ≡ length grown.up.row.now },
+    pub ghost weighed: { LightRow grown.up.row.now light.now },
+}
+
+// A tree with links along the light children of each node, in rising number: to the first of them, and from each to the next.
+#[derive(Clone, Copy)]
+pub struct Linked<'a> {
+    pub grown: Grown<'a>,
+    pub first: &'a [u16],
+    pub next: &'a [u16],
+    pub ghost firsts: { length first.now ≡ length grown.up.row.now },
+    pub ghost nexts: { length next.now ≡ length grown.up.row.now },
+    pub ghost rising: { Rising next.now },
+    pub ghost linked: { LightLinks grown.up.row.now first.now next.now },
+}
+
 // The path word of each node.
-pub fn path_words<C: Code>(
-    code: &C,
-    grown: &Grown,
-    light: &[u16],
-    desk: &mut Desk,
-)
-    requires lights { length light.now ≡ length grown.now.up.row.now }
-    requires weighed { LightRow grown.now.up.row.now light.now }
-    requires room { length desk.old.list.now ≡ length grown.now.up.row.now }
-    ensures paths { PathRows (C.words code.now) grown.now.up.row.now desk.new.words.high.now desk.new.words.low.now desk.new.words.len.now }
-    ensures room { length desk.new.list.now ≡ length grown.now.up.row.now }
+pub fn path_words<C: Code>(code: &C, tree: &Weighed, desk: &mut Desk)
+    requires { length desk.old.list.now ≡ length tree.now.grown.up.row.now }
+    ensures paths { PathRows (C.words code.now) tree.now.grown.up.row.now desk.new.words.high.now desk.new.words.low.now desk.new.words.len.now }
+    ensures room { length desk.new.list.now ≡ length tree.now.grown.up.row.now }
 {
+    let grown = &tree.grown;
     let paths = Chains {
         next: grown.heavy,
-        weight: light,
+        weight: tree.light,
     };
     for t in 0..grown.up.row.len() {
         // A node that is no heavy child begins a path.
@@ -33,27 +48,16 @@ pub fn path_words<C: Code>(
 }
 
 // The branch word of each light child.
-pub fn branch_words<C: Code>(
-    code: &C,
-    grown: &Grown,
-    first: &[u16],
-    next: &[u16],
-    desk: &mut Desk,
-)
-    requires firsts { length first.now ≡ length grown.now.up.row.now }
-    requires nexts { length next.now ≡ length grown.now.up.row.now }
-    requires rising { Rising next.now }
-    requires linked { LightLinks grown.now.up.row.now first.now next.now }
-    requires inside { (p : ℕ) → p < length grown.now.up.row.now → at first.now p < length grown.now.up.row.now }
-    requires room { length desk.old.list.now ≡ length grown.now.up.row.now }
-    ensures branches { BranchRows (C.words code.now) grown.now.up.row.now desk.new.words.high.now desk.new.words.low.now desk.new.words.len.now }
-    ensures room { length desk.new.list.now ≡ length grown.now.up.row.now }
+pub fn branch_words<C: Code>(code: &C, tree: &Linked, desk: &mut Desk)
+    requires { length desk.old.list.now ≡ length tree.now.grown.up.row.now }
+    ensures branches { BranchRows (C.words code.now) tree.now.grown.up.row.now desk.new.words.high.now desk.new.words.low.now desk.new.words.len.now }
+    ensures room { length desk.new.list.now ≡ length tree.now.grown.up.row.now }
 {
     let lists = Chains {
-        next,
-        weight: grown.size,
+        next: tree.next,
+        weight: tree.grown.size,
     };
-    for number in first {
+    for number in tree.first {
         if let Some(c) = link(*number) {
             code_chain(code, &lists, c, desk);
         }
@@ -66,7 +70,6 @@ pub fn link_light(grown: &Grown, first: &mut [u16], next: &mut [u16])
     requires nexts { length next.old ≡ length grown.now.up.row.now }
     ensures rising { Rising next.new }
     ensures linked { LightLinks grown.now.up.row.now first.new next.new }
-    ensures inside { (p : ℕ) → p < length grown.now.up.row.now → at first.new p < length grown.now.up.row.now }
 {
     first.fill(0);
     next.fill(0);

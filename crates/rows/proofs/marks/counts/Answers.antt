@@ -19,12 +19,12 @@ loop-v-preserved g c =
     let Q : (ℕ → ℕ) → List ℕ → Type 0 = λ H xs. (w : ℕ) → w < v + 1 → at xs w ≡ H w in
     elim c.if-t-eq0.branch [
       | then-t-eq0 w ↦
-          let z : top (parents_in up) (length up) v ≡ 0 = sym (c.requires.topped v l) ∙ w.if-t-eq0.true in (
+          let z : top (parents_in up) (length up) v ≡ 0 = sym (c.args.words.now.topped v l) ∙ w.if-t-eq0.true in (
             subst (Q F) (sym w.bits-is) (stored_more F c.loop-v.bits v _ ((c.args.words.now.paths v l).1 ∙ bits_root up c.args.words.now.up.rooted f v l z) (omega arith) c.loop-v.invariant.0),
             subst (Q G) (sym w.fields-is) (stored_more G c.loop-v.fields v 1 (fields_root up c.args.words.now.up.rooted f v l z) (omega arith) c.loop-v.invariant.1),
           )
       | else-t-eq0 w ↦
-          let A = above up c.args.words.now.up.rooted f c.args.top.now c.args.words.now.path.high.now c.args.words.now.path.low.now c.args.words.now.path.len.now c.args.words.now.branch.high.now c.args.words.now.branch.low.now c.args.words.now.branch.len.now c.requires.topped c.args.words.now.paths c.args.words.now.branches v l w.if-t-eq0.false in (
+          let A = above up c.args.words.now.up.rooted f c.args.words.now.top.now c.args.words.now.path.high.now c.args.words.now.path.low.now c.args.words.now.path.len.now c.args.words.now.branch.high.now c.args.words.now.branch.low.now c.args.words.now.branch.len.now c.args.words.now.topped c.args.words.now.paths c.args.words.now.branches v l w.if-t-eq0.false in (
             subst (Q F) (sym w.bits-is) (stored_more F c.loop-v.bits v _ (A.bits_are c.loop-v.bits c.loop-v.invariant.0) (omega arith) c.loop-v.invariant.0),
             subst (Q G) (sym w.fields-is) (stored_more G c.loop-v.fields v _ (A.fields_are c.loop-v.fields c.loop-v.invariant.1) (omega arith) c.loop-v.invariant.1),
           )
@@ -32,25 +32,25 @@ loop-v-preserved g c =
 
 pub bounds-words-t : goal.bounds-words-t
 bounds-words-t g c =
-    let A = above c.args.words.now.up.row.now c.args.words.now.up.rooted (g.C.Code.words c.args.words.now.code.now) c.args.top.now c.args.words.now.path.high.now c.args.words.now.path.low.now c.args.words.now.path.len.now c.args.words.now.branch.high.now c.args.words.now.branch.low.now c.args.words.now.branch.len.now c.requires.topped c.args.words.now.paths c.args.words.now.branches c.loop-v.v (omega arith) c.if-t-eq0.false in
+    let A = above c.args.words.now.up.row.now c.args.words.now.up.rooted (g.C.Code.words c.args.words.now.code.now) c.args.words.now.top.now c.args.words.now.path.high.now c.args.words.now.path.low.now c.args.words.now.path.len.now c.args.words.now.branch.high.now c.args.words.now.branch.low.now c.args.words.now.branch.len.now c.args.words.now.topped c.args.words.now.paths c.args.words.now.branches c.loop-v.v (omega arith) c.if-t-eq0.false in
     omega (arith, A.top_in)
 
 pub bounds-words-t-else-t-eq0 : goal.bounds-words-t-else-t-eq0
 bounds-words-t-else-t-eq0 g c =
-    let A = above c.args.words.now.up.row.now c.args.words.now.up.rooted (g.C.Code.words c.args.words.now.code.now) c.args.top.now c.args.words.now.path.high.now c.args.words.now.path.low.now c.args.words.now.path.len.now c.args.words.now.branch.high.now c.args.words.now.branch.low.now c.args.words.now.branch.len.now c.requires.topped c.args.words.now.paths c.args.words.now.branches c.loop-v.v (omega arith) c.if-t-eq0.false in
+    let A = above c.args.words.now.up.row.now c.args.words.now.up.rooted (g.C.Code.words c.args.words.now.code.now) c.args.words.now.top.now c.args.words.now.path.high.now c.args.words.now.path.low.now c.args.words.now.path.len.now c.args.words.now.branch.high.now c.args.words.now.branch.low.now c.args.words.now.branch.len.now c.args.words.now.topped c.args.words.now.paths c.args.words.now.branches c.loop-v.v (omega arith) c.if-t-eq0.false in
     omega (arith, A.top_in)
 
 pub overflow_add-bits : goal.overflow_add-bits
 overflow_add-bits g c =
-    let A = above c.args.words.now.up.row.now c.args.words.now.up.rooted (g.C.Code.words c.args.words.now.code.now) c.args.top.now c.args.words.now.path.high.now c.args.words.now.path.low.now c.args.words.now.path.len.now c.args.words.now.branch.high.now c.args.words.now.branch.low.now c.args.words.now.branch.len.now c.requires.topped c.args.words.now.paths c.args.words.now.branches c.loop-v.v (omega arith) c.if-t-eq0.false in
+    let A = above c.args.words.now.up.row.now c.args.words.now.up.rooted (g.C.Code.words c.args.words.now.code.now) c.args.words.now.top.now c.args.words.now.path.high.now c.args.words.now.path.low.now c.args.words.now.path.len.now c.args.words.now.branch.high.now c.args.words.now.branch.low.now c.args.words.now.branch.len.now c.args.words.now.topped c.args.words.now.paths c.args.words.now.branches c.loop-v.v (omega arith) c.if-t-eq0.false in
     omega (arith, A.bits_are c.loop-v.bits c.loop-v.invariant.0, few_bits c.args.words.now.up.row.now c.args.words.now.up.rooted (g.C.Code.words c.args.words.now.code.now) (g.C.Code.laws c.args.words.now.code.now) c.loop-v.v (omega arith))
 
 pub overflow_add-bits-else-t-eq0 : goal.overflow_add-bits-else-t-eq0
 overflow_add-bits-else-t-eq0 g c =
-    let A = above c.args.words.now.up.row.now c.args.words.now.up.rooted (g.C.Code.words c.args.words.now.code.now) c.args.top.now c.args.words.now.path.high.now c.args.words.now.path.low.now c.args.words.now.path.len.now c.args.words.now.branch.high.now c.args.words.now.branch.low.now c.args.words.now.branch.len.now c.requires.topped c.args.words.now.paths c.args.words.now.branches c.loop-v.v (omega arith) c.if-t-eq0.false in
+    let A = above c.args.words.now.up.row.now c.args.words.now.up.rooted (g.C.Code.words c.args.words.now.code.now) c.args.words.now.top.now c.args.words.now.path.high.now c.args.words.now.path.low.now c.args.words.now.path.len.now c.args.words.now.branch.high.now c.args.words.now.branch.low.now c.args.words.now.branch.len.now c.args.words.now.topped c.args.words.now.paths c.args.words.now.branches c.loop-v.v (omega arith) c.if-t-eq0.false in
     omega (arith, A.bits_are c.loop-v.bits c.loop-v.invariant.0, few_bits c.args.words.now.up.row.now c.args.words.now.up.rooted (g.C.Code.words c.args.words.now.code.now) (g.C.Code.laws c.args.words.now.code.now) c.loop-v.v (omega arith))
 
 pub overflow_add-fields : goal.overflow_add-fields
 overflow_add-fields g c =
-    let A = above c.args.words.now.up.row.now c.args.words.now.up.rooted (g.C.Code.words c.args.words.now.code.now) c.args.top.now c.args.words.now.path.high.now c.args.words.now.path.low.now c.args.words.now.path.len.now c.args.words.now.branch.high.now c.args.words.now.branch.low.now c.args.words.now.branch.len.now c.requires.topped c.args.words.now.paths c.args.words.now.branches c.loop-v.v (omega arith) c.if-t-eq0.false in
+    let A = above c.args.words.now.up.row.now c.args.words.now.up.rooted (g.C.Code.words c.args.words.now.code.now) c.args.words.now.top.now c.args.words.now.path.high.now c.args.words.now.path.low.now c.args.words.now.path.len.now c.args.words.now.branch.high.now c.args.words.now.branch.low.now c.args.words.now.branch.len.now c.args.words.now.topped c.args.words.now.paths c.args.words.now.branches c.loop-v.v (omega arith) c.if-t-eq0.false in
     omega (arith, A.fields_are c.loop-v.fields c.loop-v.invariant.1, few_fields c.args.words.now.up.row.now c.args.words.now.up.rooted (g.C.Code.words c.args.words.now.code.now) c.loop-v.v (omega arith))
