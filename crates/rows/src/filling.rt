@@ -10,7 +10,43 @@ use crate::marks::{counts, depths, tops};
 use crate::parents::gather;
 use crate::words::{Linked, Weighed, branch_words, link_light, path_words};
 use codes::code::Code;
+use std::mem;
 use trees::host::Host;
+
+// Depths, body bits and field counts.
+fn fill_marks<'a, C: Code>(
+    words: TreeWords<'a, C>,
+    depth: &'a mut [u16],
+    bits: &'a mut [u16],
+    fields: &'a mut [u16],
+) -> Marks<'a, C>
+    requires deep { length depth.old ≡ length words.up.row.now }
+    requires bitses { length bits.old ≡ length words.up.row.now }
+    requires fieldses { length fields.old ≡ length words.up.row.now }
+    ensures code { result.code.now ≡ words.entry.code.now }
+    ensures up { result.up.row.now ≡ words.entry.up.row.now }
+{
+    let up = words.up;
+    depths(&up, depth);
+    counts(&words, bits, fields);
+    let TreeWords {
+        code,
+        top,
+        path,
+        branch,
+        ..
+    } = words;
+    Marks {
+        code,
+        up,
+        top,
+        depth,
+        bits,
+        fields,
+        path,
+        branch,
+    }
+}
 
 // Fills the rows for the host's tree under a code. What is done with is written over: the row of light sizes becomes that of the first
 // links and then that of the path tops, and the rows of links, of a list and of sizes become those of depths, body bits and field counts.
@@ -37,12 +73,8 @@ pub fn fill<'a, H: Host, C: Code>(host: &H, code: &'a C, rows: Rows<'a>) -> Mark
     lights(&grown, light);
     let mut desk = Desk { list, words: path };
     path_words(code, &Weighed { grown, light }, &mut desk);
-    let Desk { list, words: path } = desk;
+    let path = mem::replace(&mut desk.words, branch);
     link_light(&grown, light, next);
-    let mut desk = Desk {
-        list,
-        words: branch,
-    };
     let linked = Linked {
         grown,
         first: light,
@@ -54,7 +86,6 @@ pub fn fill<'a, H: Host, C: Code>(host: &H, code: &'a C, rows: Rows<'a>) -> Mark
         words: branch,
     } = desk;
     tops(&grown, light);
-    depths(&up, next);
     let words = TreeWords {
         code,
         up,
@@ -62,22 +93,5 @@ pub fn fill<'a, H: Host, C: Code>(host: &H, code: &'a C, rows: Rows<'a>) -> Mark
         path,
         branch,
     };
-    counts(&words, list, size);
-    let TreeWords {
-        code,
-        up,
-        top,
-        path,
-        branch,
-    } = words;
-    Marks {
-        code,
-        up,
-        top,
-        depth: next,
-        bits: list,
-        fields: size,
-        path,
-        branch,
-    }
+    fill_marks(words, next, list, size)
 }
