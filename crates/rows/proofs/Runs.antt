@@ -137,6 +137,3 @@ module _ {weight nodes list left : List ℕ} {k : ℕ} where
         ahead = more.2;
         listed = rw put (append_assoc (take k list) (at weight c ∷ []) (map (at weight) rest) ∙ ap (λ xs. take k list ++ map (at weight) xs) (sym e) ∙ g.listed);
       }
-
-  pub gather_end : left ≡ [] → Gathered weight nodes list left k → take k list ≡ map (at weight) nodes
-  gather_end e g = sym (append-nil (take k list)) ∙ ap (λ xs. take k list ++ map (at weight) xs) (sym e) ∙ g.listed

@@ -54,6 +54,7 @@ impl<'a> Iterator for Links<'a> {
 
     ghost remaining = { item_count (λ l. l) };
 
+    #[tactic(auto, using(crate::proofs::Runs::chain_more))]
     fn next(&mut self) -> Option<usize> {
         let c = self.at?;
         self.at = link(self.next[c]);
@@ -85,6 +86,7 @@ fn list_weights(chains: &Chains, from: usize, list: &mut [u16]) -> usize
     ensures count { result ≤ length list.new }
     ensures listed { take result list.new ≡ map (at chains.now.weight.now) (chain chains.now.next.now from) }
 {
+    // How many there are so far is counted by hand, since it is the answer.
     let mut many = 0;
     for c in Links::along(chains.next, from) {
         list[many] = chains.weight[c];

@@ -68,6 +68,7 @@ pub fn lights(grown: &Grown, light: &mut [u16])
     requires { length light.old ≡ length grown.now.up.row.now }
     ensures { LightRow grown.now.up.row.now light.new }
 {
+    // A `zip` with the rows that are read was tried: after such a loop a proof knows nothing of what was written.
     for (v, place) in light.iter_mut().enumerate() {
         let size = grown.size[v];
         *place = match link(grown.heavy[v]) {

@@ -12,6 +12,7 @@ pub fn tops(grown: &Grown, top: &mut [u16])
     requires { length top.old ≡ length grown.now.up.row.now }
     ensures { TopRow grown.now.up.row.now top.new }
 {
+    // The row is written by index, since a turn reads another place of it.
     for (v, p) in grown.up.row.iter().enumerate() {
         top[v] = if grown.is_heavy(v) {
             top[*p as usize]
@@ -26,6 +27,7 @@ pub fn depths(up: &Parents, depth: &mut [u16])
     requires { length depth.old ≡ length up.now.row.now }
     ensures { DepthRow up.now.row.now depth.new }
 {
+    // The row is written by index, since a turn reads another place of it.
     for (v, p) in up.row.iter().enumerate() {
         depth[v] = if v == 0 { 0 } else { depth[*p as usize] + 1 };
     }
@@ -38,6 +40,7 @@ pub fn counts<C: Code>(words: &TreeWords<C>, bits: &mut [u16], fields: &mut [u16
     ensures counted { BitsRow (C.words words.now.code.now) words.now.up.row.now bits.new }
     ensures numbered { FieldsRow (C.words words.now.code.now) words.now.up.row.now fields.new }
 {
+    // The rows are written by index, since a turn reads another place of them.
     for (v, t) in words.top.iter().enumerate() {
         let t = *t as usize;
         if t == 0 {

@@ -1,5 +1,5 @@
 use Rattle.std.proofs.Common.{◌<◌, length, ◌∙◌, arith, rules}
-use Rattle.rows.proofs.Runs.{turn, chain_short, gather_on, gather_end}
+use Rattle.rows.proofs.Runs.{turn, chain_short, gather_on}
 use Rattle.rows.proofs.chains.list_weights.Goals as goal
 
 pub offset_bounds-chains-c : goal.offset_bounds-chains-c
@@ -23,8 +23,6 @@ loop-c-preserved c =
     let t = turn c.args.chains.now.next.now c.args.chains.now.rising c.args.from c.loop-c.many c.in-Some.c c.next.new.self c.requires.inside (c.loop-c.invariant.gathered.ahead ∙ c.in-Some.ensures.steps) in
     record { can = tt; ends = tt; gathered = gather_on c.in-Some.c (omega (arith, t.short)) c.in-Some.ensures.steps c.loop-c.invariant.gathered }
 
-pub returns : goal.returns
-returns c =
-    let g = c.loop-c.invariant.gathered in
-    let s = chain_short c.args.chains.now.next.now c.args.chains.now.rising c.args.from c.requires.inside in
-    record { count = omega (arith, g.within, s); listed = gather_end c.in-None.ensures.steps.0 g }
+pub returns-clause-count : goal.returns-clause-count
+returns-clause-count c =
+    omega (arith, c.loop-c.invariant.gathered.within, chain_short c.args.chains.now.next.now c.args.chains.now.rising c.args.from c.requires.inside)

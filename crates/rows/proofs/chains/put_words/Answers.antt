@@ -1,4 +1,8 @@
-use Rattle.std.proofs.Common.{◌≡◌, ◌+◌, ◌<◌, length, is_ok, sym, refl, ap, ◌∙◌, arith, rules}
+use Rattle.std.proofs.Common.{◌≡◌, ℕ, ◌+◌, ◌<◌, List, length, true, is_ok, Result, sym, refl, ap, ◌∙◌, arith, rules}
+use Rattle.codes.specs.declared.word.Word.{Word}
+use Rattle.codes.specs.declared.code.CodeRefusal.{CodeRefusal}
+use Rattle.codes.specs.Weighing.{Weights}
+use Rattle.codes.specs.Coding.{answer}
 use Rattle.codes.proofs.Accepting.{accepts_yes, next_more}
 use Rattle.codes.proofs.Answering.{answer_yes, answer_moved, own_word}
 use Rattle.rows.specs.Chains.{chain}
@@ -6,14 +10,14 @@ use Rattle.rows.proofs.Runs.{turn, left_none}
 use Rattle.rows.proofs.Walks.{walk_on, walk_end}
 use Rattle.rows.proofs.chains.put_words.Goals as goal
 
+-- an accepted list has a word for each of its items
+has_word : (f : List ℕ → ℕ → Word) (r : Result Word CodeRefusal) {vs : List ℕ} (ws : List ℕ) (i : ℕ) → r ≡ answer f vs i → vs ≡ ws → Weights ws → i < length ws → is_ok r ≡ true
+has_word f r ws i e p w l = ap is_ok (answer_moved f r e p refl ∙ sym (answer_yes f ws i (f ws i) (sym (accepts_yes ws i w l)) refl))
+
 pub unwrap-word-requires : goal.unwrap-word-requires
 unwrap-word-requires g c =
-    let ws = c.args.list.now in
-    let f = g.C.Code.words c.args.code.now in
     let t = turn c.args.chains.now.next.now c.args.chains.now.rising c.args.from c.loop-c.item.index c.in-Some.c c.next.new.self c.requires.inside (c.loop-c.invariant.ahead ∙ c.in-Some.ensures.steps) in
-    let i = c.loop-c.item.index in
-    let l : c.loop-c.item.index < length c.args.list.now = omega (arith, t.within, c.requires.many) in
-    ap is_ok (answer_moved f c.word.result c.word.ensures.told c.loop-c.invariant.same_list refl ∙ sym (answer_yes f ws i (f ws i) (sym (accepts_yes ws i c.requires.fine l)) refl))
+    has_word (g.C.Code.words c.args.code.now) c.word.result c.args.list.now c.loop-c.item.index c.word.ensures.told c.loop-c.invariant.same_list c.requires.fine (omega (arith, t.within, c.requires.many))
 
 pub loop-c-preserved : goal.loop-c-preserved
 loop-c-preserved g c =
