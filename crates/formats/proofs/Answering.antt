@@ -1,20 +1,20 @@
 -- From the bytes of two tags to the answers.
-use Rattle.std.proofs.Common.{◌≡◌, ℕ, zero, suc, ◌+◌, ◌-◌, ◌*◌, ◌/◌, ◌%◌, ◌<◌, ◌≤◌, Bool, true, false, cond, not, ◌&&◌, eqb, ltb, List, [], ◌∷◌, map, length, take, pos, negsuc, ◌+ℤ◌, Some, None, Ok, Err, Option, sym, refl, ap, ◌∙◌, subst, arith}
+use Rattle.std.proofs.Common.{◌≡◌, ℕ, zero, suc, ◌+◌, ◌-◌, ◌*◌, ◌/◌, ◌%◌, ◌≤◌, Bool, true, false, cond, not, ◌&&◌, eqb, ltb, List, [], ◌∷◌, map, length, take, pos, negsuc, ◌+ℤ◌, Some, None, Ok, Err, Option, sym, refl, ap, ◌∙◌, subst, arith}
 use lib.IntN.{sub_ℕ}
 use Rattle.std.specs.List.{range_with_len}
+use Rattle.std.proofs.lemmas.List.{take_all}
 use Rattle.std.proofs.lemmas.List.FromFn.{length-map-range_with_len, take-map-range_with_len, map-range_with_len_more}
-use Rattle.std.proofs.lemmas.Bool.{eq-eqb, ne_eqb, cond-true, cond-false, lt-ltb, le-ltb, ltb-true, ltb-false}
+use Rattle.std.proofs.lemmas.Bool.{eq-eqb, cond-true, cond-false, lt-ltb, le-ltb, ltb-true, ltb-false}
 use Rattle.std.proofs.lemmas.Bool.Decides.{nat_tests}
-use Rattle.formats.specs.declared.fault.TagFault.{TagFault}
 use Rattle.formats.specs.declared.fault.PairRefusal.{PairRefusal}
-use Rattle.formats.specs.declared.fault.PairRefusal.TheVariants.{OneTag, TreeNumbers, NotOneTree}
+use Rattle.formats.specs.declared.fault.PairRefusal.TheVariants.{TreeNumbers, NotOneTree}
 use Rattle.formats.specs.declared.answers.Difference.{Difference}
 use Rattle.formats.specs.declared.answers.Side.{Side}
 use Rattle.formats.specs.declared.answers.Side.TheVariants.{First, Second}
 use Rattle.formats.specs.declared.answers.Part.{Part}
 use Rattle.formats.specs.declared.answers.Relation.{Relation}
 use Rattle.formats.specs.declared.answers.Related.{Related}
-use Rattle.formats.specs.Limits.{most_fields, most_depth}
+use Rattle.formats.specs.Limits.{most_depth}
 use Rattle.formats.specs.Label.{Field, Label, word_in}
 use Rattle.formats.specs.Layout.{tree_of, count_of, depth_at}
 use Rattle.formats.specs.Faults.{first_of, tag_fault}
@@ -67,16 +67,9 @@ depth_after bs n odd h =
     ∙ end_last (map (field_at bs) (range_with_len 0 (2 * (n / 2)))) (field_at bs (2 * (n / 2)))
     ∙ ap depth_in (path_here bs (n / 2))
 
-take_whole : (v : Label) (n : ℕ) → length v ≡ n → take n v ≡ v
-take_whole v n e = ap (λ k. take k v) (sym e) ∙ go v
-  where
-    go : (u : Label) → take (length u) u ≡ u
-    go [] = refl
-    go (x ∷ u) = ap (λ r. x ∷ r) (go u)
-
 pub depth_whole : (bs : List ℕ) → tag_fault bs ≡ None → last_depth (label_of bs) ≡ depth_at bs (count_of bs / 2)
 depth_whole bs f =
-    sym (ap last_depth (take_whole (label_of bs) (count_of bs) (length_label bs))) ∙ depth_after bs (count_of bs) (is_readable bs f).odd (omega arith)
+    sym (ap last_depth (take_all (count_of bs) (label_of bs) (omega (arith, length_label bs)))) ∙ depth_after bs (count_of bs) (is_readable bs f).odd (omega arith)
 
 -- refusals
 
@@ -84,19 +77,10 @@ module _ (a b : List ℕ) where
   abbrev Last : Option PairRefusal
   Last = first_of ((not (eqb (tree_of a) (tree_of b)), TreeNumbers) ∷ (clash (label_of a) (label_of b), NotOneTree) ∷ [])
 
-  pub fault_first : (e : TagFault) → tag_fault a ≡ Some e → pair_fault a b ≡ Some (OneTag First e)
-  fault_first e h = ap (λ o. fault_on First o (fault_on Second (tag_fault b) Last)) h
-
   module _ (f : tag_fault a ≡ None) where
-    pub fault_second : (e : TagFault) → tag_fault b ≡ Some e → pair_fault a b ≡ Some (OneTag Second e)
-    fault_second e h = (λ t. fault_on First (f t) (fault_on Second (h t) Last))
-
     module _ (g : tag_fault b ≡ None) where
       to_last : pair_fault a b ≡ Last
       to_last = λ t. fault_on First (f t) (fault_on Second (g t) Last)
-
-      pub fault_numbers : (tree_of a ≡ tree_of b → ⊥) → pair_fault a b ≡ Some TreeNumbers
-      fault_numbers n = to_last ∙ cond-true _ _ _ (ap not (ne_eqb (tree_of a) (tree_of b) n))
 
       module _ (n : tree_of a ≡ tree_of b) where
         to_clash : pair_fault a b ≡ cond (clash (label_of a) (label_of b)) (Some NotOneTree) None
@@ -134,10 +118,6 @@ apart_within (x ∷ l) (y ∷ m) = go (same_word (word_in x) (word_in y)) (apart
     go false h = omega arith
 
 module _ (a b : List ℕ) (j : ℕ) (h : Paired a b j) where
-  -- the field number is small
-  pub near : j < 64
-  near = omega (arith, h.at, apart_within (label_of a) (label_of b), length_label a, (is_readable a h.first).few)
-
   pub difference_here : (d : Difference) → d ≡ difference_at j (nth_field (label_of a) j) (nth_field (label_of b) j) → d ≡ difference (label_of a) (label_of b)
   unfolding difference
   difference_here d e = let p = h.at in e ∙ (λ t. difference_at (p t) (nth_field (label_of a) (p t)) (nth_field (label_of b) (p t)))
@@ -173,13 +153,6 @@ module _ (a b : List ℕ) (j : ℕ) (h : Paired a b j) where
         go : (s : Side) (n : ℕ) → n ≤ length (side_of s (label_of a) (label_of b)) → n ≤ count_of (side_of s a b)
         go First n g = omega (arith, length_label a)
         go Second n g = omega (arith, length_label b)
-
-    pub side_few : p.fields ≤ most_fields
-    side_few = go p.side p.fields side_within
-      where
-        go : (s : Side) (n : ℕ) → n ≤ count_of (side_of s a b) → n ≤ most_fields
-        go First n g = omega (arith, (is_readable a h.first).few)
-        go Second n g = omega (arith, (is_readable b h.second).few)
 
     depth_here : depth_at (side_of p.side a b) (p.fields / 2) ≡ last_depth (fields_of p (label_of a) (label_of b))
     depth_here = go p.side p.fields shared_here.odd side_within

@@ -1,6 +1,5 @@
 -- Bits of words and of packed bytes.
-use Rattle.std.proofs.Common.{◌≡◌, ℕ, zero, suc, ◌+◌, ◌-◌, ◌*◌, ◌/◌, ◌%◌, ◌^◌, ◌<◌, ◌≤◌, Bool, true, false, eqb, List, [], ◌∷◌, length, get_or, drop, sym, refl, ap, ◌∙◌, true≢false, arith, get_or-drop}
-use mathlib.Core.Bool.{beq}
+use Rattle.std.proofs.Common.{◌≡◌, ℕ, zero, suc, ◌+◌, ◌-◌, ◌*◌, ◌/◌, ◌%◌, ◌^◌, ◌<◌, ◌≤◌, Bool, true, false, eqb, List, [], ◌∷◌, length, get_or, drop, sym, refl, ap, ◌∙◌, arith, get_or-drop}
 use Rattle.std.specs.List.{between}
 use Rattle.std.proofs.lemmas.List.FromFn.{length-map-range_with_len, get_or-map-range_with_len, fill_by_all}
 use Rattle.std.proofs.lemmas.List.Edits.{get_or-between}
@@ -48,13 +47,6 @@ same_bit_not false false h = absurd (h refl)
 
 pub same_bit_is : (x y : Bool) → x ≡ y → same_bit x y ≡ true
 same_bit_is x y e = ap (same_bit x) (sym e) ∙ same_bit_refl x
-
-pub beq_not : (x y : Bool) → beq x y ≡ false → x ≡ y → ⊥
-beq_not x y h e = true≢false (sym (beq_same x) ∙ ap (beq x) e ∙ h)
-  where
-    beq_same : (z : Bool) → beq z z ≡ true
-    beq_same true = refl
-    beq_same false = refl
 
 -- what a loop over two words finds
 pub lead_is : (xs ys : Word) (n : ℕ) → n ≤ length xs → n ≤ length ys → ((k : ℕ) → k < n → get_or xs k false ≡ get_or ys k false) → (n < length xs → n < length ys → get_or xs n false ≡ get_or ys n false → ⊥) → lead xs ys ≡ n

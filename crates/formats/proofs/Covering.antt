@@ -1,6 +1,6 @@
 -- A cover can be cut out, and is no deeper than either label.
 use Rattle.std.proofs.Common.{◌≡◌, ℕ, suc, ◌+◌, ◌%◌, ◌<◌, ◌≤◌, Bool, true, false, cond, not, ◌||◌, eqb, ltb, [], ◌∷◌, ◌++◌, length, take, Some, None, Option, sym, refl, ap, ◌∙◌, subst, ⊎_elim, arith}
-use Rattle.std.proofs.lemmas.Bool.{cases_Bool, eqb-true, ltb-true, or_parts}
+use Rattle.std.proofs.lemmas.Bool.{cases_Bool, eqb-true, ltb-true, or_parts, not-false}
 use Rattle.formats.specs.declared.answers.Side.{Side}
 use Rattle.formats.specs.declared.answers.Side.TheVariants.{First, Second}
 use Rattle.formats.specs.declared.answers.Part.{Part}
@@ -99,20 +99,16 @@ shared_second : (v : Word) (e : ℕ) (l m : Label) → e ≤ last_depth l → e 
 unfolding last_depth
 shared_second v e l m p q = record { odd = refl; within = omega arith; first = p; second = q }
 
-not_is : (b : Bool) → not b ≡ false → b ≡ true
-not_is true h = refl
-not_is false h = sym h
-
 in_order : (w v : Word) (d e : ℕ) → misplaced (path w d) (path v e) ≡ false → (t : Bool) → zero_first w v ≡ t → cond t (not (ltb d e)) (not (ltb e d)) ≡ false
 in_order w v d e h t z = sym (ap (λ b. cond b (not (ltb d e)) (not (ltb e d))) z) ∙ h
 
 shared_apart : (low : ℕ) (w v : Word) (d e : ℕ) (l m : Label) → Chain low (path w d ∷ l) → Chain low (path v e ∷ m) → misplaced (path w d) (path v e) ≡ false → (t : Bool) → zero_first w v ≡ t → Shared (path w d ∷ l) (path v e ∷ m) (cond {A = Part} t (record { side = First; fields = 1 }) (record { side = Second; fields = 1 }))
 shared_apart low w v d e l m g h c true z =
-    let k : d < e = ltb-true d e (not_is (ltb d e) (in_order w v d e c true z)) in
+    let k : d < e = ltb-true d e (not-false (ltb d e) (in_order w v d e c true z)) in
     let r = first_end low v e m h in
     shared_first w d l (path v e ∷ m) (first_end low w d l g) (omega arith)
 shared_apart low w v d e l m g h c false z =
-    let k : e < d = ltb-true e d (not_is (ltb e d) (in_order w v d e c false z)) in
+    let k : e < d = ltb-true e d (not-false (ltb e d) (in_order w v d e c false z)) in
     let r = first_end low w d l g in
     shared_second v e (path w d ∷ l) m (omega arith) (first_end low v e m h)
 
@@ -132,7 +128,7 @@ shared_more x y b c l m p g = go p.side p.fields g.odd g.within g.first g.second
         record { odd = omega arith; within = omega arith; first = omega arith; second = omega arith }
 
 alike : (w v : Word) (d e : ℕ) → unlike (path w d) (path v e) ≡ false → d ≡ e
-alike w v d e h = eqb-true d e (not_is (eqb d e) h)
+alike w v d e h = eqb-true d e (not-false (eqb d e) h)
 
 -- after the first path fields
 split : (low : ℕ) (w v : Word) (d e : ℕ) (l m : Label) → Chain low (path w d ∷ l) → Chain low (path v e ∷ m) → clash (path w d ∷ l) (path v e ∷ m) ≡ false → (d ≡ e → clash l m ≡ false → Shared (path w d ∷ l) (path v e ∷ m) (bump (cover l m))) → Shared (path w d ∷ l) (path v e ∷ m) (cover (path w d ∷ l) (path v e ∷ m))

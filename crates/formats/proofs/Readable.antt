@@ -1,9 +1,9 @@
 -- Bytes without a fault, in facts.
-use Rattle.std.proofs.Common.{◌≡◌, ℕ, ◌+◌, ◌/◌, ◌%◌, ◌<◌, ◌≤◌, Bool, true, false, cond, not, eqb, ltb, List, length, Some, None, Option, sym, refl, ap, ◌∙◌, arith}
-use Rattle.std.proofs.lemmas.Bool.{or_from, or_parts, le-ltb, ltb-false, eqb-false, ne_eqb, eq-eqb, cond-false, eqb-true}
+use Rattle.std.proofs.Common.{◌≡◌, ℕ, ◌+◌, ◌/◌, ◌%◌, ◌<◌, ◌≤◌, Bool, true, false, cond, not, eqb, ltb, List, length, Some, None, Option, refl, ap, ◌∙◌, arith}
+use Rattle.std.proofs.lemmas.Bool.{or_from, or_parts, le-ltb, ltb-false, eqb-false, ne_eqb, eq-eqb, cond-false, eqb-true, not-false}
 use Rattle.formats.specs.Limits.{most_fields}
 use Rattle.formats.specs.Layout.{tree_of, count_of, head_of, size_of, ends_fine, depths_fine, spare_at}
-use Rattle.formats.specs.Faults.{first_of, fault_tests, tag_fault}
+use Rattle.formats.specs.Faults.{tag_fault}
 
 -- what holds of bytes that are a tag
 pub record Readable (bs : List ℕ) : Type 0 where
@@ -30,10 +30,6 @@ pub none_from : {X : Type 0} (b : Bool) (x : X) (r : Option X) → cond b (Some 
 none_from true x r h = let z : ◌≡◌ {A = ℕ} 0 1 = cc in absurd (omega arith)
 none_from false x r h = (refl, h)
 
-true_from : (b : Bool) → not b ≡ false → b ≡ true
-true_from true h = refl
-true_from false h = sym h
-
 pub is_readable : (bs : List ℕ) → tag_fault bs ≡ None → Readable bs
 unfolding tag_fault
 is_readable bs h =
@@ -50,10 +46,10 @@ is_readable bs h =
       number = some (tree_of bs) (eqb-false (tree_of bs) 0 a.1);
       odd = odd (count_of bs) (eqb-false (count_of bs % 2) 0 b.0);
       few = ltb-false _ _ b.1;
-      ends = true_from _ t3.0;
-      depths = true_from _ t4.0;
-      size = eqb-true _ _ (true_from _ t5.0);
-      spare = eqb-true _ _ (true_from _ t6.0);
+      ends = not-false _ t3.0;
+      depths = not-false _ t4.0;
+      size = eqb-true _ _ (not-false _ t5.0);
+      spare = eqb-true _ _ (not-false _ t6.0);
     }
   where
     some : (n : ℕ) → (n ≡ 0 → ⊥) → 0 < n
@@ -61,7 +57,3 @@ is_readable bs h =
 
     odd : (n : ℕ) → (n % 2 ≡ 0 → ⊥) → n % 2 ≡ 1
     odd n h = omega arith
-
-pub fault_is : (bs : List ℕ) → first_of (fault_tests bs) ≡ tag_fault bs
-unfolding tag_fault
-fault_is bs = refl

@@ -1,5 +1,5 @@
 -- The walk along two labels, field by field, to the first at which one has ended or the words differ.
-use Rattle.std.proofs.Common.{◌≡◌, ℕ, zero, suc, ◌+◌, ◌<◌, true, false, ◌||◌, [], ◌∷◌, length, drop, Some, None, sym, refl, ap, ◌∙◌, subst, add-one, arith}
+use Rattle.std.proofs.Common.{◌≡◌, ℕ, zero, suc, ◌+◌, true, false, ◌||◌, [], ◌∷◌, drop, Some, None, sym, refl, ap, ◌∙◌, subst, add-one, arith}
 use Rattle.formats.specs.Label.{Field, Label, word_in}
 use Rattle.formats.specs.Pairs.{same_word, unlike, first_apart, nth_field, two_depths, clash_at, clash}
 
@@ -22,12 +22,6 @@ rest_some [] j x h = let z : ◌≡◌ {A = ℕ} 0 1 = cc in absurd (omega arith
 rest_some (y ∷ l) zero x h = let e : y ≡ x = cc in ap (λ f. f ∷ l) e
 rest_some (y ∷ l) (suc j) x h = rest_some l j x h
 
-pub nth_within : (l : Label) (j : ℕ) (x : Field) → Some x ≡ nth_field l j → j < length l
-unfolding nth_field
-nth_within [] j x h = let z : ◌≡◌ {A = ℕ} 0 1 = cc in absurd (omega arith)
-nth_within (y ∷ l) zero x h = omega arith
-nth_within (y ∷ l) (suc j) x h = let k = nth_within l j x h in omega arith
-
 -- one field in front of both
 clash_two : (x y : Field) (l m : Label) → same_word (word_in x) (word_in y) ≡ true → unlike x y ≡ true → clash (x ∷ l) (y ∷ m) ≡ true
 unfolding clash first_apart nth_field two_depths
@@ -44,9 +38,6 @@ apart_more x y l m s = rw s
 apart_here : (x y : Field) (l m : Label) → same_word (word_in x) (word_in y) ≡ false → first_apart (x ∷ l) (y ∷ m) ≡ 0
 unfolding first_apart
 apart_here x y l m s = rw s
-
-pub start : (l m : Label) → Walked l m 0
-start l m = record { apart = omega arith; clashes = refl }
 
 -- where the rests are known
 module _ (l m : Label) (j : ℕ) (w : Walked l m j) where

@@ -1,4 +1,7 @@
 pub mod Puts
 pub mod Shown
 pub mod Showing
-pub mod Bools
+pub mod Listed
+pub mod Compared
+pub mod Parting
+pub mod Paired

@@ -4,6 +4,7 @@ use Rattle.std.specs.List.{between}
 use Rattle.formats.specs.Label.{Word, path, branch, Field as Said}
 use Rattle.formats.specs.Layout.{count_of, head_of, begin_at, end_at, depth_at}
 use Rattle.formats.specs.Words.{bits_at}
+use Rattle.tags.specs.declared.field.FieldWord.{FieldWord}
 use Rattle.tags.specs.declared.field.Field.{Field}
 use Rattle.tags.specs.declared.field.Field.TheVariants.{Path, Branch}
 use Rattle.tags.specs.declared.tag.Tag.{Tag}
@@ -30,8 +31,8 @@ pub data View : Type 0 where
   branch_view : List ℕ → ℕ → ℕ → View
 
 abbrev pub view : Field → View
-view (Path b first len depth) = path_view b.now first len depth
-view (Branch b first len) = branch_view b.now first len
+view (Path w depth) = path_view w.bytes.now w.first_bit w.len depth
+view (Branch w) = branch_view w.bytes.now w.first_bit w.len
 
 -- the bytes that field i touches
 abbrev pub touched : List ℕ → ℕ → List ℕ
@@ -54,30 +55,32 @@ abbrev pub shown : Option Field → Option View
 shown None = None
 shown (Some f) = Some (view f)
 
--- the word that a field shows
-abbrev pub bytes_in : Field → List ℕ
-bytes_in (Path b first len depth) = b.now
-bytes_in (Branch b first len) = b.now
-
-abbrev pub first_in : Field → ℕ
-first_in (Path b first len depth) = first
-first_in (Branch b first len) = first
+-- the word of a field, with the bytes that it touches
+abbrev pub held : Field → FieldWord
+held (Path w depth) = w
+held (Branch w) = w
 
 abbrev pub len_in : Field → ℕ
-len_in (Path b first len depth) = len
-len_in (Branch b first len) = len
+len_in f = (held f).len
+
+-- the bits of a word
+abbrev pub bits_in : FieldWord → Word
+bits_in w = bits_at w.bytes.now (w.first_bit % 8) w.len
 
 abbrev pub word_of : Field → Word
-word_of f = bits_at (bytes_in f) (first_in f % 8) (len_in f)
+word_of f = bits_in (held f)
 
--- bit t of its word, if the word has it
+-- bit t of a word, if the word has it
+abbrev pub bit_in : FieldWord → ℕ → Option Bool
+bit_in w t = cond (nat_lt t w.len) (Some (slice_index_or (bits_in w) t false)) None
+
 abbrev pub bit_answer : Field → ℕ → Option Bool
-bit_answer f t = cond (nat_lt t (len_in f)) (Some (slice_index_or (word_of f) t false)) None
+bit_answer f t = bit_in (held f) t
 
 -- the field of a label that it is
 abbrev pub said : Field → Said
-said (Path b first len depth) = path (bits_at b.now (first % 8) len) depth
-said (Branch b first len) = branch (bits_at b.now (first % 8) len)
+said (Path w depth) = path (bits_in w) depth
+said (Branch w) = branch (bits_in w)
 
 abbrev pub said_in : Option Field → Option Said
 said_in None = None

@@ -4,9 +4,10 @@ ghost use Rattle.formats.specs.Cuts.{cut_answer, cut_output};
 ghost use Rattle.formats.specs.Theorems.{Shortened};
 ghost use Rattle.formats.proofs.Cutting.{cut_with, cleared};
 
-use crate::layout::{COUNT_AT, ENDS_AT, NUMBER_AT, end_of, filled, head_of, low_bits, spare};
+use crate::layout::{end_of, head_of, low_bits, spare};
 use crate::tag::Tag;
 use formats::fault::CutRefusal;
+use formats::layout::{COUNT_AT, ENDS_AT, NUMBER_AT, filled};
 
 // Writes `src` over `out` from `at` on.
 fn put(out: &mut [u8], at: usize, src: &[u8])
@@ -55,11 +56,7 @@ pub fn cut(bytes: &[u8], m: usize, out: &mut [u8]) -> Result<usize, CutRefusal>
     ensures output { out.new ≡ cut_output bytes.now m out.old }
     ensures reads { IfOk result (λ n. Shortened bytes.now m (take n out.new)) }
 {
-    let tag = match Tag::read(bytes) {
-        Ok(tag) => tag,
-        Err(fault) => return Err(CutRefusal::InTag { fault }),
-    };
-    let k = tag.count();
+    let k = Tag::read(bytes)?.count();
     if m % 2 == 0 || m > k as usize {
         return Err(CutRefusal::Fields);
     }

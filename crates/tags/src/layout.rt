@@ -1,31 +1,9 @@
 // Where things stand in the bytes of a tag. What stands past the end is taken for 0.
 ghost use Rattle.std.specs.Prelude.{◌≡◌, ℕ, ◌+◌, ◌-◌, ◌*◌, ◌/◌, ◌%◌, ◌^◌, ◌<◌, ◌≤◌, length, slice_index};
-ghost use Rattle.formats.specs.Layout.{pair_at, count_of, end_at, begin_at, depth_at, end_step, depth_step, ends_fine, depths_fine, spare_of, bit_at};
+ghost use Rattle.formats.specs.Layout.{pair_at, count_of, end_at, begin_at, depth_at, least_at, end_step, depth_step, ends_fine, depths_fine, spare_of, bit_at};
 
 use crate::limits::{MOST_BODY_BITS, MOST_DEPTH, MOST_FIELD_BITS};
-
-pub(crate) const NUMBER_AT: usize = 0;
-
-pub(crate) const COUNT_AT: usize = 2;
-
-pub(crate) const ENDS_AT: usize = 3;
-
-pub(crate) const BYTE_BITS: usize = 8;
-
-// The byte at `at`.
-pub(crate) fn byte(bytes: &[u8], at: usize) -> u8
-    ensures { result ≡ slice_index bytes.now at }
-{
-    if at < bytes.len() { bytes[at] } else { 0 }
-}
-
-// Two bytes, low byte first.
-pub(crate) fn pair(bytes: &[u8], at: usize) -> u16
-    requires { at < 65536 }
-    ensures { result ≡ pair_at bytes.now at }
-{
-    byte(bytes, at) as u16 + 256 * byte(bytes, at + 1) as u16
-}
+use formats::layout::{BYTE_BITS, COUNT_AT, ENDS_AT, byte, filled, pair};
 
 // How many fields a tag counts.
 pub(crate) fn count_of(bytes: &[u8]) -> u8
@@ -65,13 +43,6 @@ pub(crate) fn head_of(k: u8) -> usize
     3 * k as usize + 4
 }
 
-// The bytes that so many bits fill.
-pub(crate) fn filled(bits: u16) -> usize
-    ensures { result ≡ (bits + 7) / 8 }
-{
-    (bits as usize + (BYTE_BITS - 1)) / BYTE_BITS
-}
-
 // How many bits of the last byte of so many bits are unused.
 pub(crate) fn spare(bits: u16) -> usize
     ensures value { result ≡ spare_of bits }
@@ -104,39 +75,34 @@ fn end_follows(before: u16, end: u16) -> bool
     before < end && end as u32 <= before as u32 + MOST_FIELD_BITS && end <= MOST_BODY_BITS
 }
 
+// What depth entry `j` has to be at least.
+fn least_of(bytes: &[u8], j: u8) -> u32
+    ensures { result ≡ least_at bytes.now j }
+{
+    if j == 0 {
+        0
+    } else {
+        depth_of(bytes, j - 1) as u32 + 1
+    }
+}
+
 // A depth is at least `least`, and not too deep.
-fn depth_follows(least: u16, depth: u16) -> bool
+fn depth_follows(least: u32, depth: u16) -> bool
     ensures { result ≡ depth_step least depth }
 {
-    least <= depth && depth <= MOST_DEPTH
+    least <= depth as u32 && depth <= MOST_DEPTH
 }
 
 // The first `k` ends.
 pub(crate) fn ends_rise(bytes: &[u8], k: u8) -> bool
     ensures { result ≡ ends_fine bytes.now k }
 {
-    let mut before = 0;
-    for i in 0..k {
-        let end = end_of(bytes, i);
-        if !end_follows(before, end) {
-            return false;
-        }
-        before = end;
-    }
-    true
+    (0..k).all(|i| end_follows(begin_of(bytes, i), end_of(bytes, i)))
 }
 
 // The first `n` depths.
 pub(crate) fn depths_rise(bytes: &[u8], n: u8) -> bool
     ensures { result ≡ depths_fine bytes.now n }
 {
-    let mut least = 0;
-    for j in 0..n {
-        let depth = depth_of(bytes, j);
-        if !depth_follows(least, depth) {
-            return false;
-        }
-        least = depth + 1;
-    }
-    true
+    (0..n).all(|j| depth_follows(least_of(bytes, j), depth_of(bytes, j)))
 }

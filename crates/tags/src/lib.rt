@@ -5,6 +5,7 @@ pub mod cut;
 pub mod field;
 mod layout;
 pub mod limits;
+mod pair;
 pub mod queries;
 pub mod tag;
 #[cfg(test)]

@@ -1,66 +1,67 @@
 // A tag: bytes that have been read.
-ghost use Rattle.std.specs.Prelude.{◌≡◌, ℕ, Some, None, MatchResult, OnOk};
-ghost use Rattle.formats.specs.Faults.{first_of, fault_tests, tag_fault};
-ghost use Rattle.formats.specs.Layout.{tree_of, count_of};
-ghost use Rattle.formats.specs.Models.{label_of};
-ghost use Rattle.formats.specs.Pairs.{nth_field, last_depth};
-ghost use Rattle.formats.specs.Theorems.{Reads};
-ghost use Rattle.tags.specs.Views.{raw, end_answer, depth_answer, last_answer, field_answer, shown, said_in};
+ghost use Rattle.std.specs.Prelude.{◌≡◌, ℕ, ◌<◌, None, MatchResult, OnOk};
+ghost use Rattle.formats.specs.Faults.{tag_fault};
 
-use crate::field::Field;
+use crate::field::{Field, FieldWord};
 use crate::layout::{
-    BYTE_BITS, COUNT_AT, NUMBER_AT, begin_of, count_of, depth_of, depths_rise, end_of, ends_rise,
-    filled, head_of, low_bits, pair, spare,
+    begin_of, count_of, depth_of, depths_rise, end_of, ends_rise, head_of, low_bits, spare,
 };
 use crate::limits::MOST_FIELDS;
 use formats::fault::TagFault;
+use formats::layout::{BYTE_BITS, COUNT_AT, NUMBER_AT, filled, pair};
 
 // The first fault that applies.
-fn fault_in(bytes: &[u8]) -> Option<TagFault>
-    ensures { result ≡ first_of (fault_tests bytes.now) }
+#[tactic(auto, unfolding(formats::specs::Faults::tag_fault))]
+fn check(bytes: &[u8]) -> Result<(), TagFault>
+    ensures { MatchResult result (λ _. tag_fault bytes.now ≡ None) (λ e. tag_fault bytes.now ≡ Some e) }
 {
     if bytes.len() <= COUNT_AT || pair(bytes, NUMBER_AT) == 0 {
-        return Some(TagFault::Number);
+        return Err(TagFault::Number);
     }
     let k = bytes[COUNT_AT];
     if k % 2 == 0 || k > MOST_FIELDS {
-        return Some(TagFault::Count);
+        return Err(TagFault::Count);
     }
     if bytes.len() < head_of(k) {
-        return Some(TagFault::Head);
+        return Err(TagFault::Head);
     }
     if !ends_rise(bytes, k) {
-        return Some(TagFault::End);
+        return Err(TagFault::End);
     }
-    if !depths_rise(bytes, (k + 1) / 2) {
-        return Some(TagFault::Depth);
+    if !depths_rise(bytes, k.div_ceil(2)) {
+        return Err(TagFault::Depth);
     }
     let bits = end_of(bytes, k - 1);
     if bytes.len() != head_of(k) + filled(bits) {
-        return Some(TagFault::Length);
+        return Err(TagFault::Length);
     }
     if low_bits(bytes[bytes.len() - 1], spare(bits)) != 0 {
-        return Some(TagFault::Spare);
+        return Err(TagFault::Spare);
     }
-    None
+    Ok(())
 }
 
 // The bytes of a tag, as they were read: nothing is copied.
 #[derive(Clone, Copy)]
 pub struct Tag<'a> {
     bytes: &'a [u8],
+    pub ghost readable: { tag_fault bytes.now ≡ None },
 }
 
 impl<'a> Tag<'a> {
+    ghost use Rattle.formats.specs.Layout.{tree_of, count_of};
+    ghost use Rattle.formats.specs.Models.{field_at, label_of};
+    ghost use Rattle.formats.specs.Pairs.{nth_field, last_depth};
+    ghost use Rattle.formats.specs.Theorems.{Reads};
+    ghost use Rattle.tags.specs.Views.{raw, end_answer, depth_answer, last_answer, field_answer, view, view_at, shown, said, said_in};
+
     // Bytes that are a tag are those of the number and the label that they read as.
     pub fn read(bytes: &'a [u8]) -> Result<Tag<'a>, TagFault>
         ensures told { MatchResult result (λ t. (tag_fault bytes.now ≡ None) × (raw t ≡ bytes.now)) (λ e. tag_fault bytes.now ≡ Some e) }
         ensures reads { OnOk result (Reads bytes.now) }
     {
-        match fault_in(bytes) {
-            None => Ok(Tag { bytes }),
-            Some(fault) => Err(fault),
-        }
+        check(bytes)?;
+        Ok(Tag { bytes })
     }
 
     pub fn tree_number(&self) -> u16
@@ -91,7 +92,7 @@ impl<'a> Tag<'a> {
     pub fn depth(&self, j: usize) -> Option<u16>
         ensures { result ≡ depth_answer (raw self.now) j }
     {
-        if j < (self.count() as usize + 1) / 2 {
+        if j < (self.count() as usize).div_ceil(2) {
             Some(depth_of(self.bytes, j as u8))
         } else {
             None
@@ -101,7 +102,7 @@ impl<'a> Tag<'a> {
     // The depth of the last path field: the depth of the node that the tag names.
     pub fn last_depth(&self) -> u16
         ensures value { result ≡ last_answer (raw self.now) }
-        ensures reads { tag_fault (raw self.now) ≡ None → result ≡ last_depth (label_of (raw self.now)) }
+        ensures reads { result ≡ last_depth (label_of (raw self.now)) }
     {
         depth_of(self.bytes, self.count() / 2)
     }
@@ -109,41 +110,37 @@ impl<'a> Tag<'a> {
     // Field `i`; none at or past the count.
     pub fn field(&self, i: usize) -> Option<Field<'a>>
         ensures shows { shown result ≡ field_answer (raw self.now) i }
-        ensures reads { tag_fault (raw self.now) ≡ None → said_in result ≡ nth_field (label_of (raw self.now)) i }
+        ensures reads { said_in result ≡ nth_field (label_of (raw self.now)) i }
     {
-        self.pick(i)
+        if i < self.count() as usize {
+            Some(self.pick(i as u8))
+        } else {
+            None
+        }
     }
 
-    fn pick(&self, i: usize) -> Option<Field<'a>>
-        ensures { shown result ≡ field_answer (raw self.now) i }
+    // Field `i` of those that there are.
+    pub(crate) fn pick(&self, i: u8) -> Field<'a>
+        requires { i < count_of (raw self.now) }
+        ensures shows { view result ≡ view_at (raw self.now) i }
+        ensures reads { said result ≡ field_at (raw self.now) i }
     {
-        let k = self.count();
-        if i >= k as usize {
-            return None;
-        }
-        let begin = begin_of(self.bytes, i as u8);
-        let end = end_of(self.bytes, i as u8);
-        let past = head_of(k) + filled(end);
-        if end < begin || self.bytes.len() < past {
-            return None;
-        }
-        let bytes = &self.bytes[head_of(k) + begin as usize / BYTE_BITS..past];
+        let begin = begin_of(self.bytes, i);
+        let end = end_of(self.bytes, i);
+        let head = head_of(self.count());
+        let bytes = &self.bytes[head + begin as usize / BYTE_BITS..head + filled(end)];
         let first_bit = begin as usize;
         let len = (end - begin) as usize;
+        let word = FieldWord {
+            bytes,
+            first_bit,
+            len,
+        };
         if i % 2 == 0 {
-            let depth = depth_of(self.bytes, i as u8 / 2);
-            Some(Field::Path {
-                bytes,
-                first_bit,
-                len,
-                depth,
-            })
+            let depth = depth_of(self.bytes, i / 2);
+            Field::Path { word, depth }
         } else {
-            Some(Field::Branch {
-                bytes,
-                first_bit,
-                len,
-            })
+            Field::Branch { word }
         }
     }
 }

@@ -65,27 +65,14 @@ fn reads_the_example(rt: HostRuntime) -> Result<(), Fail> {
     assert_eq!(rt; tag.last_depth(), 2);
     assert!(rt; tag.field(3).is_none());
     match tag.field(2) {
-        Some(
-            Field::Path {
-                bytes,
-                first_bit,
-                len,
-                depth,
-            },
-        ) => {
-            assert_eq!(rt; first_bit, 3);
-            assert_eq!(rt; len, 2);
+        Some(Field::Path { word, depth }) => {
+            assert_eq!(rt; word.first_bit, 3);
+            assert_eq!(rt; word.len, 2);
             assert_eq!(rt; depth, 2);
-            assert_eq!(rt; bytes.len(), 1);
+            assert_eq!(rt; word.bytes.len(), 1);
             Ok(())
         }
-        Some(
-            Field::Branch {
-                bytes: _,
-                first_bit: _,
-                len: _,
-            },
-        ) => Err(Fail::new("a branch field")),
+        Some(Field::Branch { word: _ }) => Err(Fail::new("a branch field")),
         None => Err(Fail::new("no field")),
     }
 }

@@ -11,10 +11,10 @@ use Rattle.tags.proofs.cut.cut.Goals.{After-filled}
 
 module _ (c : After-filled) where
   fault : tag_fault c.args.bytes.now ≡ None
-  fault = c.in-Ok.ensures.told.0
+  fault = c.in_ok-read.ensures.told.0
 
   count : c.count-k.result ≡ count_of c.args.bytes.now
-  count = c.count-k.ensures ∙ ap count_of c.in-Ok.ensures.told.1
+  count = c.count-k.ensures ∙ ap count_of c.in_ok-read.ensures.told.1
 
   odd : c.args.m % 2 ≡ 1
   odd = omega arith
