@@ -1,9 +1,13 @@
 -- One `put` after another.
-use Rattle.std.proofs.Common.{◌≡◌, ℕ, ◌+◌, ◌-◌, ◌*◌, ◌/◌, ◌<◌, ◌≤◌, List, [], ◌∷◌, ◌++◌, length, get_or, take, drop, sym, refl, ap, ◌∙◌, append_assoc, arith}
+use Rattle.std.proofs.Common.{◌≡◌, ℕ, ◌+◌, ◌-◌, ◌*◌, ◌/◌, ◌%◌, ◌<◌, ◌≤◌, List, [], ◌∷◌, ◌++◌, length, get_or, take, drop, sym, refl, ap, ◌∙◌, append_assoc, arith}
 use Rattle.std.specs.List.{between}
 use Rattle.std.proofs.lemmas.List.Edits.{length-between}
 use Rattle.std.proofs.lemmas.List.{take_at, drop_at, drop-drop, length-append}
-use Rattle.formats.specs.Layout.{spare_of}
+use Rattle.formats.specs.Layout.{count_of, end_at, spare_of}
+use Rattle.formats.proofs.Readable.{is_readable}
+use Rattle.formats.proofs.Spans.{span}
+use Rattle.tags.specs.declared.tag.Tag.{Tag}
+use Rattle.tags.specs.Views.{raw}
 use Rattle.formats.proofs.Cutting.{cut_with, last_of, cleared}
 
 -- xs stands at the front of o, in the place of the first `at` bytes of d
@@ -32,3 +36,10 @@ module _ (bs d : List ℕ) (k m l h g w : ℕ) (mk : m ≤ k) (fits : 3 * k + 4 
       let w5 = put_more d _ (between h (h + w) bs) o4 o5 g (g + w) w4 e5 (omega (arith, length-between bs h (h + w) (omega arith))) in
       put_last d _ o5 o6 b (cleared (get_or bs (h + w) 0) (spare_of l)) (g + w) (3 * m + 4 + (l + 7) / 8) w5 e6 same (omega arith)
       ∙ (λ t. (((((between 0 2 bs ++ (m ∷ [])) ++ between 3 (3 + 2 * m) bs) ++ between (3 + 2 * k) (3 + 2 * k + (m + 1)) bs) ++ between (head t) (last t) bs) ++ (cleared (get_or bs (last t) 0) (spare_of l) ∷ [])) ++ drop (3 * m + 4 + (l + 7) / 8) d)
+
+-- a tag has the bytes of its first fields
+pub parts_fit : (t : Tag) (m : ℕ) → m % 2 ≡ 1 → m ≤ count_of (raw t) → (0 < end_at (raw t) (m - 1)) × (3 * count_of (raw t) + 4 + (end_at (raw t) (m - 1) + 7) / 8 ≤ length (raw t))
+parts_fit t m odd within =
+    let ok = is_readable (raw t) t.readable in
+    let s = span (raw t) ok (m - 1) (omega arith) in
+    (omega (arith, s.some), omega (arith, s.inside, ok.size))

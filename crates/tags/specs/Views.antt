@@ -55,27 +55,35 @@ abbrev pub shown : Option Field → Option View
 shown None = None
 shown (Some f) = Some (view f)
 
--- the word of a field, with the bytes that it touches
+-- the word of a field, in the bytes that it touches
 abbrev pub held : Field → FieldWord
 held (Path w depth) = w
 held (Branch w) = w
-
-abbrev pub len_in : Field → ℕ
-len_in f = (held f).len
 
 -- the bits of a word
 abbrev pub bits_in : FieldWord → Word
 bits_in w = bits_at w.bytes.now (w.first_bit % 8) w.len
 
-abbrev pub word_of : Field → Word
-word_of f = bits_in (held f)
-
 -- bit t of a word, if the word has it
 abbrev pub bit_in : FieldWord → ℕ → Option Bool
 bit_in w t = cond (nat_lt t w.len) (Some (slice_index_or (bits_in w) t false)) None
 
+-- the word that a field shows
+abbrev pub bytes_in : Field → List ℕ
+bytes_in f = (held f).bytes.now
+
+abbrev pub first_in : Field → ℕ
+first_in f = (held f).first_bit
+
+abbrev pub len_in : Field → ℕ
+len_in f = (held f).len
+
+abbrev pub word_of : Field → Word
+word_of f = bits_at (bytes_in f) (first_in f % 8) (len_in f)
+
+-- bit t of its word, if the word has it
 abbrev pub bit_answer : Field → ℕ → Option Bool
-bit_answer f t = bit_in (held f) t
+bit_answer f t = cond (nat_lt t (len_in f)) (Some (slice_index_or (word_of f) t false)) None
 
 -- the field of a label that it is
 abbrev pub said : Field → Said

@@ -2,7 +2,9 @@
 ghost use Rattle.std.specs.Prelude.{◌≡◌, ℕ, ◌+◌, ◌-◌, ◌*◌, ◌/◌, ◌%◌, ◌<◌, ◌≤◌, ◌++◌, length, take, drop, IfOk};
 ghost use Rattle.formats.specs.Cuts.{cut_answer, cut_output};
 ghost use Rattle.formats.specs.Theorems.{Shortened};
-ghost use Rattle.formats.proofs.Cutting.{cut_with, cleared};
+ghost use Rattle.formats.specs.Layout.{count_of};
+ghost use Rattle.formats.proofs.Cutting.{cut_bytes, cut_size, cleared};
+ghost use Rattle.tags.specs.Views.{raw};
 
 use crate::layout::{end_of, head_of, low_bits, spare};
 use crate::tag::Tag;
@@ -25,17 +27,26 @@ fn clear(b: u8, n: usize) -> u8
     b - low_bits(b, n)
 }
 
-// The first `m` of the `k` fields, of which the last ends at bit `bits`.
-fn write_cut(bytes: &[u8], k: u8, m: u8, bits: u16, out: &mut [u8])
-    requires fields { m ≤ k }
-    requires some { 0 < bits }
-    requires within { 3 * k + 4 + (bits + 7) / 8 ≤ length bytes.now }
-    requires room { 3 * m + 4 + (bits + 7) / 8 ≤ length out.old }
-    ensures { out.new ≡ cut_with bytes.now k m bits ++ drop (3 * m + 4 + (bits + 7) / 8) out.old }
+// How many bytes the first `m` fields fill as a tag.
+fn cut_size(tag: &Tag, m: u8) -> usize
+    requires { 1 ≤ m }
+    ensures { result ≡ cut_size (raw tag.now) m }
 {
+    head_of(m) + filled(end_of(tag.bytes, m - 1))
+}
+
+// Writes the first `m` fields over the front of `out`.
+fn write_cut(tag: &Tag, m: u8, out: &mut [u8])
+    requires odd { m % 2 ≡ 1 }
+    requires fields { m ≤ count_of (raw tag.now) }
+    requires room { cut_size (raw tag.now) m ≤ length out.old }
+    ensures { out.new ≡ cut_bytes (raw tag.now) m ++ drop (cut_size (raw tag.now) m) out.old }
+{
+    let bytes = tag.bytes;
+    let bits = end_of(bytes, m - 1);
     let ends = ENDS_AT + 2 * m as usize;
-    let depths = ENDS_AT + 2 * k as usize;
-    let head = head_of(k);
+    let depths = ENDS_AT + 2 * tag.count() as usize;
+    let head = head_of(tag.count());
     let cut_head = head_of(m);
     let whole = filled(bits) - 1;
     put(out, NUMBER_AT, &bytes[NUMBER_AT..COUNT_AT]);
@@ -56,15 +67,14 @@ pub fn cut(bytes: &[u8], m: usize, out: &mut [u8]) -> Result<usize, CutRefusal>
     ensures output { out.new ≡ cut_output bytes.now m out.old }
     ensures reads { IfOk result (λ n. Shortened bytes.now m (take n out.new)) }
 {
-    let k = Tag::read(bytes)?.count();
-    if m % 2 == 0 || m > k as usize {
+    let tag = Tag::read(bytes)?;
+    if m % 2 == 0 || m > tag.count() as usize {
         return Err(CutRefusal::Fields);
     }
-    let bits = end_of(bytes, (m - 1) as u8);
-    let size = head_of(m as u8) + filled(bits);
+    let size = cut_size(&tag, m as u8);
     if out.len() < size {
         return Err(CutRefusal::Room);
     }
-    write_cut(bytes, k, m as u8, bits, out);
+    write_cut(&tag, m as u8, out);
     Ok(size)
 }

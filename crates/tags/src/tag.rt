@@ -44,7 +44,7 @@ fn check(bytes: &[u8]) -> Result<(), TagFault>
 // The bytes of a tag, as they were read: nothing is copied.
 #[derive(Clone, Copy)]
 pub struct Tag<'a> {
-    bytes: &'a [u8],
+    pub(crate) bytes: &'a [u8],
     pub ghost readable: { tag_fault bytes.now ≡ None },
 }
 
