@@ -193,3 +193,11 @@ over_clear ws xs ys w z j =
       | inl lt ↦ ap (λ zs. get_or zs j false) w.is ∙ get_or_append_left ws (drop (0 + length ws) xs) false j lt
       | inr ge ↦ getD_past_write w j false (omega arith) ∙ z j ∙ sym (get_or_past ws j false ge)
     ]
+
+-- bytes that come after others are bytes
+pub after_fits : (xs ys : List ℕ) → ((i : ℕ) → get_or (xs ++ ys) i 0 < 256) → (i : ℕ) → get_or ys i 0 < 256
+after_fits xs ys h i =
+    let e : length xs + i - length xs ≡ i = omega arith in
+    let le : length xs ≤ length xs + i = omega arith in
+    let same : get_or (xs ++ ys) (length xs + i) 0 ≡ get_or ys i 0 = get_or-append_right xs ys (length xs) (length xs + i) 0 refl le ∙ ap (λ k. get_or ys k 0) e in
+    omega (arith, h (length xs + i))

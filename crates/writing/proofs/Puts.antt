@@ -1,6 +1,9 @@
 -- One write after another.
-use Rattle.std.proofs.Common.{◌≡◌, ℕ, suc, ◌+◌, ◌-◌, ◌<◌, ◌≤◌, List, [], ◌∷◌, ◌++◌, length, get_or, take, drop, set, sym, refl, ap, ◌∙◌, subst, arith}
-use Rattle.std.proofs.lemmas.List.{append_assoc, length-append, length-take-le, length-drop, take_at, drop_at, drop-drop, take-append-drop, set_split, set-get_or, get_or-append_right, get_or-drop}
+use Rattle.std.proofs.Common.{◌≡◌, ℕ, suc, ◌+◌, ◌-◌, ◌/◌, ◌%◌, ◌<◌, ◌≤◌, List, [], ◌∷◌, ◌++◌, length, get_or, take, drop, set, sym, refl, ap, ◌∙◌, subst, arith}
+use Rattle.std.proofs.lemmas.List.{append_assoc, length-append, length-take-le, length-drop, take_at, drop_at, drop-drop, take-append-drop, set_split, set-get_or, get_or-append_right, get_or-drop, append-nil, drop_all}
+use Rattle.std.specs.Int.{byte_at, to_le_bytes, w16, w32}
+use Rattle.formats.specs.Models.{two}
+use Rattle.labels.specs.Sheet.{four}
 use borrow.Rule.Slice.PartMut.{put_mid}
 use Rattle.writing.specs.Writes.{Wrote, put}
 
@@ -65,6 +68,41 @@ module _ {A : Type 0} where
   wrote_same j b d xs lt e =
       subst (λ (zs : List A). Wrote j (b ∷ []) xs zs) (ap (set xs j) (sym e) ∙ set-get_or xs j d) (wrote_set j b xs lt)
 
+  -- a row that is overwritten whole
+  pub wrote_all : {bs xs ys : List A} → Wrote 0 bs xs ys → length xs ≡ length bs → ys ≡ bs
+  unfolding put
+  wrote_all {bs} {xs} {ys} w e = w.is ∙ ap (λ zs. bs ++ zs) (drop_all (0 + length bs) xs (omega arith)) ∙ append-nil bs
+
+  -- the first part of a row written whole, and then some of the other
+  pub wrote_both : (a : ℕ) (ws bs xs ys : List A) → length ws ≡ a → a ≤ length xs → Wrote 0 bs (drop a xs) ys → Wrote 0 (ws ++ bs) xs (ws ++ ys)
+  unfolding put
+  wrote_both a ws bs xs ys n le w =
+      let far : a + (0 + length bs) ≡ 0 + length (ws ++ bs) = simp length-append (omega arith) in
+      let room = w.room in
+      record {
+        room = simp length-append (omega (arith, length-drop a xs));
+        is = ap (λ zs. ws ++ zs) (w.is ∙ ap (λ zs. bs ++ zs) (drop-drop (0 + length bs) a xs ∙ ap (λ k. drop k xs) far)) ∙ sym (append_assoc ws bs (drop (0 + length (ws ++ bs)) xs));
+      }
+
   -- a part of a row that is overwritten whole
   pub wrote_part : (a k : ℕ) (bs xs ys : List A) → ys ≡ bs → length bs ≡ k → a + k ≤ length xs → Wrote a bs xs (put_mid a k xs ys)
   wrote_part a k bs xs ys e n le = record { room = omega arith; is = ap (put_mid a k xs) e ∙ put_mid_lem a k bs xs n }
+
+-- ---- numbers as bytes
+
+two_bytes : (x : ℕ) → x < 65536 → to_le_bytes w16 x ≡ two x
+two_bytes x lt = let high : byte_at 1 x ≡ x / 256 = omega arith in ap (λ y. byte_at 0 x ∷ y ∷ []) high
+
+pub wrote_two : {a : ℕ} {bs xs ys : List ℕ} (x : ℕ) → x < 65536 → bs ≡ to_le_bytes w16 x → Wrote a bs xs ys → Wrote a (two x) xs ys
+wrote_two {a} {bs} {xs} {ys} x lt e w = subst (λ (cs : List ℕ). Wrote a cs xs ys) (e ∙ two_bytes x lt) w
+
+four_bytes : (x : ℕ) → x < 4294967296 → to_le_bytes w32 x ≡ four x
+four_bytes x lt =
+    let e0 : byte_at 0 x ≡ x % 65536 % 256 = omega arith in
+    let e1 : byte_at 1 x ≡ x % 65536 / 256 = omega arith in
+    let e2 : byte_at 2 x ≡ x / 65536 % 256 = omega arith in
+    let e3 : byte_at 3 x ≡ x / 65536 / 256 = omega arith in
+    λ i. e0 i ∷ e1 i ∷ e2 i ∷ e3 i ∷ []
+
+pub wrote_four : {a : ℕ} {bs xs ys : List ℕ} (x : ℕ) → x < 4294967296 → bs ≡ to_le_bytes w32 x → Wrote a bs xs ys → Wrote a (four x) xs ys
+wrote_four {a} {bs} {xs} {ys} x lt e w = subst (λ (cs : List ℕ). Wrote a cs xs ys) (e ∙ four_bytes x lt) w

@@ -1,10 +1,13 @@
 -- The lengths and the turns of a sheet.
-use Rattle.std.proofs.Common.{◌≡◌, ℕ, zero, suc, ◌+◌, ◌*◌, ◌<◌, ◌≤◌, Bool, true, false, ◌&&◌, List, [], ◌∷◌, ◌++◌, map, length, get_or, sym, refl, ap, ◌∙◌, subst, ⊎_elim, append_assoc, add-one, arith, length-append}
-use Rattle.std.specs.List.{range_with_len, flat_map}
+use Rattle.std.proofs.Common.{◌≡◌, ℕ, zero, suc, ◌+◌, ◌*◌, ◌<◌, ◌≤◌, Bool, true, false, ◌&&◌, List, [], ◌∷◌, ◌++◌, map, sum, length, get_or, take, sym, refl, ap, ◌∙◌, subst, ⊎_elim, append_assoc, add-one, arith, length-append}
+use Rattle.std.specs.List.{range_with_len, flat_map, list_all, sum_by}
 use Rattle.std.proofs.lemmas.List.FromFn.{map-range_with_len_more}
-use Rattle.std.proofs.lemmas.List.{flat_map_more}
-use Rattle.std.proofs.lemmas.Bool.{cases_lt, cases_eq, and_from}
+use Rattle.std.proofs.lemmas.List.{flat_map_more, take_more, take_all}
+use Rattle.std.proofs.lemmas.List.Folds.{list_all-append}
+use Rattle.std.proofs.lemmas.List.Sums.{sum-map, sum_by_push}
+use Rattle.std.proofs.lemmas.Bool.{cases_lt}
 use Rattle.codes.specs.declared.word.Word.{Word}
+use Rattle.formats.specs.Limits.{most_tag_bytes}
 use Rattle.formats.specs.Layout.{all_below}
 use Rattle.formats.specs.Models.{two}
 use Rattle.labels.specs.Sizes.{sum_to}
@@ -18,18 +21,28 @@ use Rattle.writing.proofs.Puts.{then}
 
 -- ---- tests below a number
 
-pub all_more : (p : ℕ → Bool) (n : ℕ) → p n ≡ true → all_below p n ≡ true → all_below p (n + 1) ≡ true
-all_more p n t h = ap (all_below p) (add-one n) ∙ and_from (p n) (all_below p n) t h
+and_turns : (a b : Bool) → (a && b) ≡ (b && a)
+and_turns true true = refl
+and_turns true false = refl
+and_turns false true = refl
+and_turns false false = refl
 
-pub all_fails : (p : ℕ → Bool) (n v : ℕ) → v < n → p v ≡ false → all_below p n ≡ false
-all_fails p zero v l f = absurd (omega arith)
-all_fails p (suc n) v l f =
-    let ih = all_fails p n v in
-    ⊎_elim (λ e. ap (λ (t : Bool). t && all_below p n) (sym (ap p e) ∙ f)) (λ ne. ap (λ (t : Bool). p n && t) (ih (omega arith) f) ∙ none (p n)) (cases_eq v n)
+-- a test of each number of a row, by what the numbers are
+pub all_rows : (test : ℕ → Bool) (xs : List ℕ) (p : ℕ → Bool) → ((v : ℕ) → v < length xs → test (get_or xs v 0) ≡ p v) → list_all test xs ≡ all_below p (length xs)
+all_rows test xs p h = sym (ap (list_all test) (take_all (length xs) xs (omega arith))) ∙ go (length xs) (omega arith)
   where
-    none : (t : Bool) → (t && false) ≡ false
-    none true = refl
-    none false = refl
+    go : (n : ℕ) → n ≤ length xs → list_all test (take n xs) ≡ all_below p n
+    go zero le = refl
+    go (suc n) le =
+        let ih = go n (omega arith) in
+        let e = h n (omega arith) in
+        ap (λ k. list_all test (take k xs)) (sym (add-one n))
+        ∙ ap (list_all test) (take_more xs n 0 (omega arith))
+        ∙ list_all-append test (take n xs) (get_or xs n 0 ∷ [])
+        ∙ ap (λ b. b && (test (get_or xs n 0) && true)) ih
+        ∙ ap (λ b. all_below p n && (b && true)) e
+        ∙ ap (λ b. all_below p n && b) (and_turns (p n) true)
+        ∙ and_turns (all_below p n) (p n)
 
 -- ---- lists by a count
 
@@ -123,16 +136,41 @@ module _ (f : List ℕ → ℕ → Word) (up : List ℕ) (number : ℕ) where
       let d = offset_is (length up) in
       omega arith
 
-  -- one more offset, one more tag
-  pub put_offset : (v end at : ℕ) {xs ys zs : List ℕ} → end ≡ row_offset f up number v → at ≡ 4 + 4 * v → Wrote 4 (offsets_to f up number v) xs ys → Wrote at (four end) ys zs
-      → Wrote 4 (offsets_to f up number (v + 1)) xs zs
-  put_offset v end at {xs} {ys} {zs} e ea p q =
-      subst (λ (ws : List ℕ). Wrote 4 ws xs zs) (ap (λ (x : ℕ). offsets_to f up number v ++ four x) e ∙ sym (offsets_more v)) (then p q (omega (arith, length_offsets v)))
+  pub tags_longer : (n k : ℕ) → k ≤ n → length (tags_to f up number k) ≤ length (tags_to f up number n)
+  tags_longer n k le = omega (arith, offset_rises n k le, offset_is n, offset_is k)
 
-  pub put_next : (v at : ℕ) {xs ys zs : List ℕ} → at ≡ row_offset f up number v → Wrote (8 + 4 * length up) (tags_to f up number v) xs ys → Wrote at (row_tag f up number v) ys zs
-      → Wrote (8 + 4 * length up) (tags_to f up number (v + 1)) xs zs
-  put_next v at {xs} {ys} {zs} e p q =
-      subst (λ (ws : List ℕ). Wrote (8 + 4 * length up) ws xs zs) (sym (tags_more v)) (then p q (omega (arith, offset_is v)))
+  pub tags_sum : (v : ℕ) → length (tags_to f up number (v + 1)) ≡ length (tags_to f up number v) + length (row_tag f up number v)
+  tags_sum v = ap (λ (bs : List ℕ). length bs) (tags_more v) ∙ length-append (tags_to f up number v) (row_tag f up number v)
+
+  -- the sum of the sizes
+  sizes_by : (k : ℕ) → sum_by (λ v. length (row_tag f up number v)) (range_with_len 0 k) ≡ length (tags_to f up number k)
+  sizes_by zero = ap (λ (bs : List ℕ). length bs) (sym no_tags)
+  sizes_by (suc k) =
+      let size : ℕ → ℕ = λ v. length (row_tag f up number v) in
+      ap (sum_by size) (counting_last 0 k k (omega arith)) ∙ sum_by_push size (range_with_len 0 k) k ∙ ap (λ (x : ℕ). x + size k) (sizes_by k)
+      ∙ sym (tags_sum k) ∙ ap (λ n. length (tags_to f up number n)) (add-one k)
+
+  pub sizes_sum : (k : ℕ) → sum (map (λ v. length (row_tag f up number v)) (range_with_len 0 k)) ≡ length (tags_to f up number k)
+  sizes_sum k = sum-map (λ v. length (row_tag f up number v)) (range_with_len 0 k) ∙ sizes_by k
+
+  pub sizes_small : ((v : ℕ) → v < length up → length (row_tag f up number v) ≤ most_tag_bytes) → (k : ℕ) → k ≤ length up → length (tags_to f up number k) ≤ most_tag_bytes * k
+  sizes_small h zero le = omega (arith, ap (λ (bs : List ℕ). length bs) no_tags)
+  sizes_small h (suc k) le =
+      let ih = sizes_small h k (omega arith) in
+      let a = tags_sum k in
+      let b = h k (omega arith) in
+      let e = ap (λ n. length (tags_to f up number n)) (add-one k) in
+      omega arith
+
+  -- one more offset, one more tag
+  pub put_offset : (v end at : ℕ) {xs ys zs : List ℕ} → end ≡ row_offset f up number v → at ≡ 4 * v → Wrote 0 (offsets_to f up number v) xs ys → Wrote at (four end) ys zs
+      → Wrote 0 (offsets_to f up number (v + 1)) xs zs
+  put_offset v end at {xs} {ys} {zs} e ea p q =
+      subst (λ (ws : List ℕ). Wrote 0 ws xs zs) (ap (λ (x : ℕ). offsets_to f up number v ++ four x) e ∙ sym (offsets_more v)) (then p q (omega (arith, length_offsets v)))
+
+  pub put_next : (v at : ℕ) {xs ys zs : List ℕ} → at ≡ length (tags_to f up number v) → Wrote 0 (tags_to f up number v) xs ys → Wrote at (row_tag f up number v) ys zs
+      → Wrote 0 (tags_to f up number (v + 1)) xs zs
+  put_next v at {xs} {ys} {zs} e p q = subst (λ (ws : List ℕ). Wrote 0 ws xs zs) (sym (tags_more v)) (then p q (omega arith))
 
 -- how many fields a label has, by the row of counts
 pub label_count : (f : List ℕ → ℕ → Word) (up row : List ℕ) (v : ℕ) → get_or row v 0 ≡ length (row_label f up v) → get_or row v 0 ≡ length (label (parents_in up) (length up) f v)

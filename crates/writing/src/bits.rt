@@ -1,10 +1,11 @@
 // Bits in bytes, the high bit of a byte first.
 ghost use Rattle.std.specs.Prelude.{◌≡◌, ℕ, ◌+◌, ◌*◌, ◌^◌, ◌<◌, ◌≤◌, true, false, length, slice_index_or, slice_set};
-ghost use Rattle.codes.specs.Words.{digits};
+ghost use Rattle.codes.specs.Words.{bits};
 ghost use Rattle.writing.specs.Bits.{unpacked};
 ghost use Rattle.writing.specs.Writes.{Wrote};
 
-const BYTE_BITS: usize = 8;
+use codes::word::Word;
+use formats::layout::BYTE_BITS;
 
 const HIGH_BIT: u8 = 128;
 
@@ -17,16 +18,17 @@ fn set_bit(out: &mut [u8], j: usize)
     out[j / BYTE_BITS] += HIGH_BIT >> (j % BYTE_BITS);
 }
 
-// Writes the k low bits of x, the high one first, from the bit `at` on, where all is clear.
-pub fn put_bits(out: &mut [u8], at: usize, x: u32, k: u32)
-    requires room { at + k ≤ 8 * length out.old }
-    requires short { k ≤ 32 }
+// Writes the bits of a word from the bit `at` on, where all is clear.
+pub fn put_word(out: &mut [u8], at: usize, word: Word)
+    requires room { at + word.len ≤ 8 * length out.old }
+    requires short { word.len ≤ 32 }
     requires long { length out.old < 2 ^ 60 }
     requires clear { (j : ℕ) → at ≤ j → slice_index_or (unpacked out.old) j false ≡ false }
-    ensures { Wrote at (digits k x) (unpacked out.old) (unpacked out.new) }
+    ensures { Wrote at (bits word) (unpacked out.old) (unpacked out.new) }
 {
-    for i in 0..k {
-        if (x >> (k - 1 - i)) % 2 == 1 {
+    // The i-th bit from the front is the i-th last of the value: one number for both is plainer than two iterators.
+    for i in 0..word.len {
+        if (word.value >> (word.len - 1 - i)) % 2 == 1 {
             set_bit(out, at + i as usize);
         }
     }

@@ -4,5 +4,6 @@
 
 mod bits;
 mod bytes;
+pub mod layout;
 pub mod sheeting;
 mod tagging;

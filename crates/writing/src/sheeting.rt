@@ -1,93 +1,67 @@
 // A sheet, written from the rows.
 ghost use Rattle.std.specs.Prelude.{◌≡◌, ℕ, ◌+◌, ◌*◌, ◌<◌, ◌≤◌, length};
-ghost use Rattle.rows.specs.Marked.{Marked};
 ghost use Rattle.writing.specs.Writes.{Wrote};
-ghost use Rattle.writing.specs.Sheets.{row_few, row_sheet, row_offset, offsets_to, tags_to};
+ghost use Rattle.writing.specs.Sheets.{row_few, row_sheet, offsets_to, tags_to};
 
-use crate::bytes::{put_four, put_two};
+use crate::bytes::put;
+use crate::layout::{NODES_AT, OFFSET_BYTES, OFFSETS_AT, header};
 use crate::tagging::{put_tag, tag_size};
 use codes::code::Code;
-use rows::filling::Marks;
+use formats::layout::NUMBER_AT;
+use formats::limits::MOST_FIELDS;
+use rows::finished::Marks;
 
-// The most fields that a tag can hold.
-const MOST_FIELDS: u16 = 63;
-
-// Where the number of nodes and the offsets stand in a sheet, and the bytes of an offset.
-const NODES_AT: usize = 2;
-
-const OFFSETS_AT: usize = 4;
-
-const OFFSET: usize = 4;
-
-// The bytes before the first tag, where there are n nodes: they have n + 1 offsets.
-fn header(n: usize) -> usize
-    requires { n ≤ 32767 }
-    ensures { result ≡ 8 + 4 * n }
+// Whether each label has no more fields than a tag can hold.
+pub fn few_fields<C: Code>(m: &Marks<C>) -> bool
+    ensures { result ≡ row_few (C.words m.now.code.now) m.now.up.row.now }
 {
-    OFFSETS_AT + OFFSET * (n + 1)
-}
-
-// Whether each label has no more fields than a tag can hold; the code is named in the contract only.
-pub fn few_fields<C: Code>(code: &C, m: &Marks) -> bool
-    requires marked { Marked (C.words code.now) m.now }
-    ensures { result ≡ row_few (C.words code.now) m.now.up.now }
-{
-    for v in 0..m.fields.len() {
-        if m.fields[v] > MOST_FIELDS {
-            return false;
-        }
-    }
-    true
+    m.fields.iter().all(|k| *k <= MOST_FIELDS as u16)
 }
 
 // How many bytes a sheet has.
-pub fn measure<C: Code>(code: &C, m: &Marks) -> usize
-    requires marked { Marked (C.words code.now) m.now }
-    ensures { (number : ℕ) → result ≡ length (row_sheet (C.words code.now) m.now.up.now number) }
+pub fn measure<C: Code>(m: &Marks<C>) -> usize
+    ensures { (number : ℕ) → result ≡ length (row_sheet (C.words m.now.code.now) m.now.up.row.now number) }
 {
-    let mut end = header(m.up.len());
-    for v in 0..m.up.len() {
-        end += tag_size(code, m, v);
-    }
-    end
+    let n = m.up.row.len();
+    header(n as u16) + (0..n).map(|v| tag_size(m, v)).sum::<usize>()
 }
 
-// Where each tag begins, and where the last one ends.
-fn put_offsets<C: Code>(code: &C, m: &Marks, number: u16, out: &mut [u8])
-    requires marked { Marked (C.words code.now) m.now }
-    requires room { 8 + 4 * length m.now.up.now ≤ length out.old }
-    ensures { Wrote 4 (offsets_to (C.words code.now) m.now.up.now number (length m.now.up.now + 1)) out.old out.new }
+// Where each tag begins and where the last one ends, and the tags of all nodes.
+fn put_nodes<C: Code>(m: &Marks<C>, number: u16, offsets: &mut [u8], tags: &mut [u8])
+    requires offsets_room { 4 * (length m.now.up.row.now + 1) ≤ length offsets.old }
+    requires tags_room { length (tags_to (C.words m.now.code.now) m.now.up.row.now number (length m.now.up.row.now)) ≤ length tags.old }
+    ensures offsets { Wrote 0 (offsets_to (C.words m.now.code.now) m.now.up.row.now number (length m.now.up.row.now + 1)) offsets.old offsets.new }
+    ensures tags { Wrote 0 (tags_to (C.words m.now.code.now) m.now.up.row.now number (length m.now.up.row.now)) tags.old tags.new }
 {
-    let n = m.up.len();
-    let mut end = header(n);
+    let n = m.up.row.len();
+    let first = header(n as u16);
+    let mut end = 0;
     for v in 0..n {
-        put_four(out, OFFSETS_AT + OFFSET * v, end as u32);
-        end += tag_size(code, m, v);
+        put(
+            offsets,
+            OFFSET_BYTES * v,
+            &((first + end) as u32).to_le_bytes(),
+        );
+        let begin = end;
+        end += tag_size(m, v);
+        put_tag(m, number, v, &mut tags[begin..end]);
     }
-    put_four(out, OFFSETS_AT + OFFSET * n, end as u32);
-}
-
-// The tags of all nodes.
-fn put_tags<C: Code>(code: &C, m: &Marks, number: u16, out: &mut [u8])
-    requires marked { Marked (C.words code.now) m.now }
-    requires room { row_offset (C.words code.now) m.now.up.now number (length m.now.up.now) ≤ length out.old }
-    ensures { Wrote (8 + 4 * length m.now.up.now) (tags_to (C.words code.now) m.now.up.now number (length m.now.up.now)) out.old out.new }
-{
-    let mut end = header(m.up.len());
-    for v in 0..m.up.len() {
-        put_tag(code, m, number, out, end, v);
-        end += tag_size(code, m, v);
-    }
+    put(
+        offsets,
+        OFFSET_BYTES * n,
+        &((first + end) as u32).to_le_bytes(),
+    );
 }
 
 // The sheet.
-pub fn put_sheet<C: Code>(code: &C, m: &Marks, number: u16, out: &mut [u8])
-    requires marked { Marked (C.words code.now) m.now }
-    requires room { length (row_sheet (C.words code.now) m.now.up.now number) ≤ length out.old }
-    ensures { Wrote 0 (row_sheet (C.words code.now) m.now.up.now number) out.old out.new }
+pub fn put_sheet<C: Code>(m: &Marks<C>, number: u16, out: &mut [u8])
+    requires { length (row_sheet (C.words m.now.code.now) m.now.up.row.now number) ≤ length out.old }
+    ensures { Wrote 0 (row_sheet (C.words m.now.code.now) m.now.up.row.now number) out.old out.new }
 {
-    put_two(out, 0, number);
-    put_two(out, NODES_AT, m.up.len() as u16);
-    put_offsets(code, m, number, out);
-    put_tags(code, m, number, out);
+    let n = m.up.row.len() as u16;
+    let (head, tags) = out.split_at_mut(header(n));
+    let (numbers, offsets) = head.split_at_mut(OFFSETS_AT);
+    put(numbers, NUMBER_AT, &number.to_le_bytes());
+    put(numbers, NODES_AT, &n.to_le_bytes());
+    put_nodes(m, number, offsets, tags);
 }

@@ -1,147 +1,121 @@
 // One tag, written front to back from the rows. A label is written by first writing that of the node above its path, so a call goes
 // as deep as the label has path fields.
-ghost use Rattle.std.specs.Prelude.{◌≡◌, ℕ, ◌+◌, ◌*◌, ◌/◌, ◌^◌, ◌<◌, ◌≤◌, false, length, slice_index_or};
+ghost use Rattle.std.specs.Prelude.{◌≡◌, ℕ, ◌+◌, ◌*◌, ◌^◌, ◌<◌, ◌≤◌, false, length, slice_index_or, MatchOption};
 ghost use Rattle.std.specs.List.{flat_map};
 ghost use Rattle.formats.specs.Limits.{most_tag_bytes};
 ghost use Rattle.formats.specs.Label.{body_in, depths_in};
-ghost use Rattle.formats.specs.Words.{pack};
 ghost use Rattle.formats.specs.Models.{two};
-ghost use Rattle.rows.specs.Rows.{row_label};
-ghost use Rattle.rows.specs.Marked.{Marked};
+ghost use Rattle.labels.specs.Labels.{path_word};
+ghost use Rattle.rows.specs.Chains.{at, Held};
+ghost use Rattle.rows.specs.Rows.{parents_in, row_label};
 ghost use Rattle.writing.specs.Writes.{Wrote};
 ghost use Rattle.writing.specs.Bits.{unpacked};
-ghost use Rattle.writing.specs.Tags.{ends_at, body_bytes, row_tag};
+ghost use Rattle.writing.specs.Tags.{ends_at, row_tag, Turned, Straight};
 
-use crate::bits::put_bits;
-use crate::bytes::{put_one, put_two};
+use crate::bits::put_word;
+use crate::bytes::put;
 use codes::code::Code;
-use rows::filling::Marks;
-
-// A word's value stands in two rows, as its high and its low 16 bits.
-const HALF_RANGE: u32 = 65536;
+use codes::rows::WordRows;
+use codes::word::{Word, joined};
+use formats::layout::{COUNT_AT, ENDS_AT, NUMBER_AT, filled};
+use rows::finished::Marks;
 
 // The bytes of an end or a depth.
-const ENTRY: usize = 2;
+const ENTRY_BYTES: usize = 2;
 
-// Where the count of fields and the ends stand in a tag.
-const COUNT_AT: usize = 2;
-
-const ENDS_AT: usize = 3;
-
-// How many bytes hold so many bits.
-fn filled(bits: u16) -> usize
-    ensures { result ≡ (bits + 7) / 8 }
-{
-    (bits as usize + 7) / 8
+// Where a path leaves the one above it: the node there, and the branch word.
+#[derive(Clone, Copy)]
+struct Turn {
+    above: usize,
+    word: Word,
 }
 
-// Where each word of a label ends.
-fn put_ends<C: Code>(code: &C, m: &Marks, out: &mut [u8], at: usize, v: usize)
-    requires marked { Marked (C.words code.now) m.now }
-    requires inside { v < length m.now.up.now }
-    requires room { at + 2 * length (row_label (C.words code.now) m.now.up.now v) ≤ length out.old }
-    ensures { Wrote at (flat_map two (ends_at (row_label (C.words code.now) m.now.up.now v))) out.old out.new }
+// The word at a place of rows.
+fn word_at(rows: &WordRows, i: usize) -> Word
+    requires high { i < length rows.now.high.now }
+    requires low { i < length rows.now.low.now }
+    requires len { i < length rows.now.len.now }
+    requires short { at rows.now.len.now i ≤ 32 }
+    ensures { Held result rows.now.high.now rows.now.low.now rows.now.len.now i }
 {
-    let t = m.top[v] as usize;
+    Word {
+        value: joined(rows.high[i], rows.low[i]),
+        len: rows.len[i] as u8,
+    }
+}
+
+// The path word of a node.
+fn path_word<C: Code>(m: &Marks<C>, v: usize) -> Word
+    requires { v < length m.now.up.row.now }
+    ensures is { result ≡ path_word (parents_in m.now.up.row.now) (length m.now.up.row.now) (C.words m.now.code.now) v }
+    ensures short { result.len ≤ 32 }
+{
+    word_at(&m.path, v)
+}
+
+// The turn that leads to the path of a node, and none on the root's path.
+fn turn_at<C: Code>(m: &Marks<C>, v: usize) -> Option<Turn>
+    requires { v < length m.now.up.row.now }
+    ensures { MatchOption result (Straight (C.words m.now.code.now) m.now.up.row.now v) (λ turn. Turned (C.words m.now.code.now) m.now.up.row.now v turn.above turn.word) }
+{
+    let top = m.top[v] as usize;
+    if top == 0 {
+        return None;
+    }
+    Some(Turn {
+        above: m.up.row[top] as usize,
+        word: word_at(&m.branch, top),
+    })
+}
+
+// The label of a node: where its words end, the depths at its path fields, and the bits of its words, these into clear bytes.
+fn put_label<C: Code>(m: &Marks<C>, v: usize, ends: &mut [u8], depths: &mut [u8], body: &mut [u8])
+    requires inside { v < length m.now.up.row.now }
+    requires ends_room { 2 * length (row_label (C.words m.now.code.now) m.now.up.row.now v) ≤ length ends.old }
+    requires depths_room { length (row_label (C.words m.now.code.now) m.now.up.row.now v) + 1 ≤ length depths.old }
+    requires body_room { length (body_in (row_label (C.words m.now.code.now) m.now.up.row.now v)) ≤ 8 * length body.old }
+    requires long { length body.old < 2 ^ 60 }
+    requires clear { (j : ℕ) → slice_index_or (unpacked body.old) j false ≡ false }
+    ensures ends { Wrote 0 (flat_map two (ends_at (row_label (C.words m.now.code.now) m.now.up.row.now v))) ends.old ends.new }
+    ensures depths { Wrote 0 (flat_map two (depths_in (row_label (C.words m.now.code.now) m.now.up.row.now v))) depths.old depths.new }
+    ensures body { Wrote 0 (body_in (row_label (C.words m.now.code.now) m.now.up.row.now v)) (unpacked body.old) (unpacked body.new) }
+{
+    let word = path_word(m, v);
+    let last = m.fields[v] as usize - 1;
     let end = m.bits[v];
-    if t == 0 {
-        put_two(out, at, end);
-    } else {
-        let p = m.up[t] as usize;
-        put_ends(code, m, out, at, p);
-        let k = m.fields[p] as usize;
-        put_two(out, at + ENTRY * k, end - m.path_len[v]);
-        put_two(out, at + ENTRY * k + ENTRY, end);
+    let begin = end - word.len as u16;
+    if let Some(turn) = turn_at(m, v) {
+        put_label(m, turn.above, ends, depths, body);
+        put(ends, ENTRY_BYTES * (last - 1), &begin.to_le_bytes());
+        put_word(body, begin as usize - turn.word.len as usize, turn.word);
     }
+    put(ends, ENTRY_BYTES * last, &end.to_le_bytes());
+    put(depths, last, &m.depth[v].to_le_bytes());
+    put_word(body, begin as usize, word);
 }
 
-// The depth of the node at each path field of a label.
-fn put_depths<C: Code>(code: &C, m: &Marks, out: &mut [u8], at: usize, v: usize)
-    requires marked { Marked (C.words code.now) m.now }
-    requires inside { v < length m.now.up.now }
-    requires room { at + length (row_label (C.words code.now) m.now.up.now v) + 1 ≤ length out.old }
-    ensures { Wrote at (flat_map two (depths_in (row_label (C.words code.now) m.now.up.now v))) out.old out.new }
-{
-    let t = m.top[v] as usize;
-    if t == 0 {
-        put_two(out, at, m.depth[v]);
-    } else {
-        let p = m.up[t] as usize;
-        put_depths(code, m, out, at, p);
-        put_two(out, at + m.fields[p] as usize + 1, m.depth[v]);
-    }
-}
-
-// The bits of all words of a label, into clear bytes.
-fn put_body<C: Code>(code: &C, m: &Marks, out: &mut [u8], v: usize)
-    requires marked { Marked (C.words code.now) m.now }
-    requires inside { v < length m.now.up.now }
-    requires room { length (body_in (row_label (C.words code.now) m.now.up.now v)) ≤ 8 * length out.old }
-    requires long { length out.old < 2 ^ 60 }
-    requires clear { (j : ℕ) → slice_index_or (unpacked out.old) j false ≡ false }
-    ensures { Wrote 0 (body_in (row_label (C.words code.now) m.now.up.now v)) (unpacked out.old) (unpacked out.new) }
-{
-    let t = m.top[v] as usize;
-    let word = m.path_high[v] as u32 * HALF_RANGE + m.path_low[v] as u32;
-    let len = m.path_len[v];
-    if t == 0 {
-        put_bits(out, 0, word, len as u32);
-    } else {
-        let p = m.up[t] as usize;
-        put_body(code, m, out, p);
-        let begun = m.bits[p] as usize;
-        let branch = m.branch_high[t] as u32 * HALF_RANGE + m.branch_low[t] as u32;
-        let turn = m.branch_len[t];
-        put_bits(out, begun, branch, turn as u32);
-        put_bits(out, begun + turn as usize, word, len as u32);
-    }
-}
-
-// The packed body of a label, in as many bytes as it takes.
-fn pack_body<C: Code>(code: &C, m: &Marks, out: &mut [u8], v: usize)
-    requires marked { Marked (C.words code.now) m.now }
-    requires inside { v < length m.now.up.now }
-    requires room { length out.old ≡ body_bytes (row_label (C.words code.now) m.now.up.now v) }
-    ensures { out.new ≡ pack (body_in (row_label (C.words code.now) m.now.up.now v)) }
-{
-    out.fill(0);
-    put_body(code, m, out, v);
-}
-
-// The same as a part of a longer output.
-fn put_packed<C: Code>(code: &C, m: &Marks, out: &mut [u8], at: usize, v: usize)
-    requires marked { Marked (C.words code.now) m.now }
-    requires inside { v < length m.now.up.now }
-    requires room { at + body_bytes (row_label (C.words code.now) m.now.up.now v) ≤ length out.old }
-    ensures { Wrote at (pack (body_in (row_label (C.words code.now) m.now.up.now v))) out.old out.new }
-{
-    let k = filled(m.bits[v]);
-    pack_body(code, m, &mut out[at..at + k], v);
-}
-
-// How many bytes a tag has; the code is named in the contract only.
-pub fn tag_size<C: Code>(code: &C, m: &Marks, v: usize) -> usize
-    requires marked { Marked (C.words code.now) m.now }
-    requires inside { v < length m.now.up.now }
-    ensures is { (number : ℕ) → result ≡ length (row_tag (C.words code.now) m.now.up.now number v) }
+// How many bytes a tag has.
+pub fn tag_size<C: Code>(m: &Marks<C>, v: usize) -> usize
+    requires { v < length m.now.up.row.now }
+    ensures is { (number : ℕ) → result ≡ length (row_tag (C.words m.now.code.now) m.now.up.row.now number v) }
     ensures small { result ≤ most_tag_bytes }
 {
     let k = m.fields[v] as usize;
-    ENDS_AT + ENTRY * k + (k + 1) + filled(m.bits[v])
+    ENDS_AT + ENTRY_BYTES * k + (k + 1) + filled(m.bits[v])
 }
 
-// The tag of a node.
-pub fn put_tag<C: Code>(code: &C, m: &Marks, number: u16, out: &mut [u8], at: usize, v: usize)
-    requires marked { Marked (C.words code.now) m.now }
-    requires inside { v < length m.now.up.now }
-    requires room { at + length (row_tag (C.words code.now) m.now.up.now number v) ≤ length out.old }
-    ensures { Wrote at (row_tag (C.words code.now) m.now.up.now number v) out.old out.new }
+// The tag of a node, over all of an output.
+pub fn put_tag<C: Code>(m: &Marks<C>, number: u16, v: usize, out: &mut [u8])
+    requires inside { v < length m.now.up.row.now }
+    requires room { length out.old ≡ length (row_tag (C.words m.now.code.now) m.now.up.row.now number v) }
+    ensures { out.new ≡ row_tag (C.words m.now.code.now) m.now.up.row.now number v }
 {
     let k = m.fields[v] as usize;
-    put_two(out, at, number);
-    put_one(out, at + COUNT_AT, k as u8);
-    put_ends(code, m, out, at + ENDS_AT, v);
-    let depths = at + ENDS_AT + ENTRY * k;
-    put_depths(code, m, out, depths, v);
-    put_packed(code, m, out, depths + k + 1, v);
+    let (head, rest) = out.split_at_mut(ENDS_AT);
+    let (ends, rest) = rest.split_at_mut(ENTRY_BYTES * k);
+    let (depths, body) = rest.split_at_mut(k + 1);
+    put(head, NUMBER_AT, &number.to_le_bytes());
+    head[COUNT_AT] = k as u8;
+    body.fill(0);
+    put_label(m, v, ends, depths, body);
 }

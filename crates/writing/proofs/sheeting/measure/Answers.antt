@@ -1,23 +1,51 @@
-use Rattle.std.proofs.Common.{◌≡◌, length, ap, ◌∙◌, arith}
-use Rattle.writing.specs.Sheets.{row_offset}
-use Rattle.writing.proofs.Sheeted.{offset_zero, offset_more, sheet_length}
+use Rattle.std.proofs.Common.{◌≡◌, ℕ, ◌*◌, ◌≤◌, length, refl, ◌∙◌, arith, rules, tests}
+use Rattle.std.proofs.lemmas.Iterator.{YieldsList-from_map, YieldsList-from_range}
+use Rattle.std.proofs.lemmas.Iterator.Consumers.{YieldsList-at, fits_from_yields_list, sum_from_yields_List}
+use Rattle.formats.specs.Limits.{most_tag_bytes}
+use Rattle.writing.specs.Tags.{row_tag}
+use Rattle.writing.specs.Sheets.{tags_to}
+use Rattle.writing.proofs.Tagged.{tag_length, tag_small}
+use Rattle.writing.proofs.Sheeted.{offset_is, sheet_length, sizes_sum, sizes_small}
 use Rattle.writing.proofs.sheeting.measure.Goals as goal
+use Rattle.writing.proofs.sheeting.measure.Goals.{Start, After-sum}
 
-pub header-end-requires : goal.header-end-requires
-header-end-requires g c = c.requires.marked.rooted.few
+-- all tags of a sheet together are small
+small : (g : _) (c : Start g) → length (tags_to (g.C.Code.words c.args.m.now.code.now) c.args.m.now.up.row.now 0 (length c.args.m.now.up.row.now)) ≤ most_tag_bytes * length c.args.m.now.up.row.now
+small g c =
+    let m = c.args.m.now in
+    let f = g.C.Code.words m.code.now in
+    let up = m.up.row.now in
+    sizes_small f up 0
+    (λ v l. omega (arith, tag_length f up m.up.rooted v l _ _ (m.numbered v l) (m.counted v l) 0, tag_small f up m.up.rooted v l _ _ (m.numbered v l) (m.counted v l) (g.C.Code.laws m.code.now)))
+    (length up) (omega arith)
 
-pub loop-v-init : goal.loop-v-init
-loop-v-init g c =
-    (λ number. c.header-end.ensures ∙ offset_zero (g.C.Code.words c.args.code.now) c.args.m.now.up.now number, omega (arith, c.header-end.ensures))
+pub sum-requires-clause-fits : goal.sum-requires-clause-fits
+sum-requires-clause-fits g c =
+    let f = g.C.Code.words c.args.m.now.code.now in
+    let up = c.args.m.now.up.row.now in
+    let n = length up in
+    let few = c.args.m.now.up.rooted.few in
+    let total = sizes_sum f up 0 n in
+    let most = small g (goal.at.sum-requires-clause-fits g c).Start in
+    fits_from_yields_list c.map.result _
+    (YieldsList-from_map _ (λ v. length (row_tag f up 0 v)) (YieldsList-at c.map.ensures.source (YieldsList-from_range 0 n n refl (omega arith))) c.map.ensures.closure (λ x r q k. search (rules, tests)))
+    (omega arith)
 
-pub overflow_add-end : goal.overflow_add-end
-overflow_add-end g c = omega (arith, c.tag_size-end.ensures.small, c.loop-v.invariant.1, c.requires.marked.rooted.few)
+-- the sum is that of the sizes of all tags
+total : (g : _) (c : After-sum g) (number : ℕ) → c.sum.result ≡ length (tags_to (g.C.Code.words c.args.m.now.code.now) c.args.m.now.up.row.now number (length c.args.m.now.up.row.now))
+total g c number =
+    let f = g.C.Code.words c.args.m.now.code.now in
+    let up = c.args.m.now.up.row.now in
+    let n = length up in
+    sum_from_yields_List c.map.result c.sum.result c.sum.ensures.ran
+    (YieldsList-from_map _ (λ v. length (row_tag f up number v)) (YieldsList-at c.map.ensures.source (YieldsList-from_range 0 n n refl (omega arith))) c.map.ensures.closure (λ x r q k. search (rules, tests)))
+    ∙ sizes_sum f up number n
 
-pub loop-v-preserved : goal.loop-v-preserved
-loop-v-preserved g c =
-    (λ number. offset_more (g.C.Code.words c.args.code.now) c.args.m.now.up.now number c.loop-v.v c.loop-v.end c.tag_size-end.result (c.loop-v.invariant.0 number) (c.tag_size-end.ensures.is number), omega (arith, c.tag_size-end.ensures.small, c.loop-v.invariant.1))
+pub overflow_add-result : goal.overflow_add-result
+overflow_add-result g c = omega (arith, total g c 0, small g (goal.at.overflow_add-result g c).Start, c.header.ensures, c.args.m.now.up.rooted.few)
 
 pub returns : goal.returns
 returns g c number =
-    let e : c.loop-v.v ≡ length c.args.m.now.up.now = omega arith in
-    c.loop-v.invariant.0 number ∙ ap (row_offset (g.C.Code.words c.args.code.now) c.args.m.now.up.now number) e ∙ sheet_length (g.C.Code.words c.args.code.now) c.args.m.now.up.now number
+    let f = g.C.Code.words c.args.m.now.code.now in
+    let up = c.args.m.now.up.row.now in
+    omega (arith, total g c number, offset_is f up number (length up), sheet_length f up number, c.header.ensures)

@@ -1,36 +1,40 @@
-use Rattle.std.proofs.Common.{ℕ, ◌+◌, List, ◌++◌, length, sym, subst, arith, length-append}
+use Rattle.std.proofs.Common.{◌≡◌, ℕ, ◌+◌, List, ◌++◌, length, sym, subst, arith, length-append}
 use Rattle.formats.specs.Models.{two}
 use Rattle.writing.specs.Writes.{Wrote}
-use Rattle.writing.specs.Sheets.{offsets_to}
-use Rattle.writing.proofs.Puts.{then}
+use Rattle.writing.specs.Sheets.{offsets_to, tags_to}
+use Rattle.writing.proofs.Puts.{then, wrote_two, wrote_all, wrote_both}
 use Rattle.writing.proofs.Sheeted.{offset_is, sheet_length, sheet_parts, length_offsets}
 use Rattle.writing.proofs.sheeting.put_sheet.Goals as goal
 
-pub put_two-requires : goal.put_two-requires
-put_two-requires g c =
-    omega (arith, sheet_length (g.C.Code.words c.args.code.now) c.args.m.now.up.now c.args.number, offset_is (g.C.Code.words c.args.code.now) c.args.m.now.up.now c.args.number (length c.args.m.now.up.now), c.requires.room)
+pub split_at_mut-head-requires : goal.split_at_mut-head-requires
+split_at_mut-head-requires g c =
+    let f = g.C.Code.words c.args.m.now.code.now in
+    let up = c.args.m.now.up.row.now in
+    omega (arith, sheet_length f up c.args.number, offset_is f up c.args.number (length up), c.requires, c.header.ensures)
 
-pub overflow_cast-m : goal.overflow_cast-m
-overflow_cast-m g c = omega (arith, c.requires.marked.rooted.few)
-
-pub put_two-requires-2 : goal.put_two-requires-2
-put_two-requires-2 g c =
-    omega (arith, sheet_length (g.C.Code.words c.args.code.now) c.args.m.now.up.now c.args.number, offset_is (g.C.Code.words c.args.code.now) c.args.m.now.up.now c.args.number (length c.args.m.now.up.now), c.requires.room)
-
-pub put_offsets-requires : goal.put_offsets-requires
-put_offsets-requires g c =
-    record { marked = c.requires.marked; room = omega (arith, sheet_length (g.C.Code.words c.args.code.now) c.args.m.now.up.now c.args.number, offset_is (g.C.Code.words c.args.code.now) c.args.m.now.up.now c.args.number (length c.args.m.now.up.now), c.requires.room) }
-
-pub put_tags-requires : goal.put_tags-requires
-put_tags-requires g c =
-    record { marked = c.requires.marked; room = omega (arith, sheet_length (g.C.Code.words c.args.code.now) c.args.m.now.up.now c.args.number, c.requires.room) }
+pub put_nodes-requires : goal.put_nodes-requires
+put_nodes-requires g c =
+    let f = g.C.Code.words c.args.m.now.code.now in
+    let up = c.args.m.now.up.row.now in
+    let long = sheet_length f up c.args.number in
+    let last = offset_is f up c.args.number (length up) in
+    record { offsets_room = omega (arith, c.requires, c.header.ensures); tags_room = omega (arith, c.requires, c.header.ensures) }
 
 pub returns : goal.returns
 returns g c =
-    let f = g.C.Code.words c.args.code.now in
-    let up = c.args.m.now.up.now in
-    let n = c.args.number in
-    let long = length_offsets f up n (length up + 1) in
-    let front = length-append (two n ++ two (length up)) (offsets_to f up n (length up + 1)) in
-    subst (λ (bs : List ℕ). Wrote 0 bs c.args.out.now c.put_tags.new.out) (sym (sheet_parts f up n))
-    (then (then (then c.put_two.ensures c.put_two-2.ensures (omega arith)) c.put_offsets.ensures (omega arith)) c.put_tags.ensures (omega arith))
+    let f = g.C.Code.words c.args.m.now.code.now in
+    let up = c.args.m.now.up.row.now in
+    let n = length up in
+    let few = c.args.m.now.up.rooted.few in
+    let offsets = offsets_to f up c.args.number (n + 1) in
+    let tags = tags_to f up c.args.number n in
+    let many = length_offsets f up c.args.number (n + 1) in
+    let header = c.header.ensures in
+    let front : c.put-2.new.out ≡ two c.args.number ++ two n =
+    wrote_all (then (wrote_two c.args.number (omega arith) c.to_le_bytes.ensures c.put.ensures) (wrote_two n (omega arith) c.to_le_bytes-2.ensures c.put-2.ensures) (omega arith)) (omega arith) in
+    let back : c.put_nodes.new.offsets ≡ offsets = wrote_all c.put_nodes.ensures.offsets (omega arith) in
+    let head = length-append (two c.args.number ++ two n) offsets in
+    let rest = subst (λ (xs : List ℕ). Wrote 0 tags xs c.put_nodes.new.tags) c.split_at_mut-head.ensures.back c.put_nodes.ensures.tags in
+    let whole = wrote_both c.header.result ((two c.args.number ++ two n) ++ offsets) tags c.args.out.now c.put_nodes.new.tags (omega arith) (omega arith) rest in
+    subst (λ (bs : List ℕ). Wrote 0 bs c.args.out.now (c.put-2.new.out ++ c.put_nodes.new.offsets ++ c.put_nodes.new.tags)) (sym (sheet_parts f up c.args.number))
+    (subst (λ (ys : List ℕ). Wrote 0 (((two c.args.number ++ two n) ++ offsets) ++ tags) c.args.out.now ys) (λ i. sym front i ++ sym back i ++ c.put_nodes.new.tags) whole)

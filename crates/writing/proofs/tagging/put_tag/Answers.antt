@@ -1,57 +1,76 @@
-use Rattle.std.proofs.Common.{◌≡◌, ℕ, ◌+◌, ◌/◌, List, [], ◌∷◌, ◌++◌, length, get_or, sym, ap, ◌∙◌, subst, arith, length-append}
+use Rattle.std.proofs.Common.{◌≡◌, ℕ, [], ◌∷◌, ◌++◌, length, set, sym, ap, ◌∙◌, arith, rules}
 use Rattle.std.specs.List.{flat_map}
 use Rattle.formats.specs.Label.{depths_in, body_in}
 use Rattle.formats.specs.Models.{two}
 use Rattle.formats.specs.Words.{pack}
 use Rattle.formats.proofs.Written.{length_two}
+use Rattle.rows.specs.Chains.{at}
 use Rattle.rows.specs.Rows.{row_label}
-use Rattle.rows.proofs.Labelled.{few_fields}
-use Rattle.writing.specs.Writes.{Wrote}
-use Rattle.writing.specs.Tags.{ends_at, body_bytes, row_tag}
-use Rattle.writing.proofs.Puts.{then}
+use Rattle.rows.proofs.Labelled.{few_fields, few_bits}
+use Rattle.writing.specs.Tags.{ends_at, row_tag}
+use Rattle.writing.specs.Bits.{unpacked}
+use Rattle.writing.proofs.Puts.{then, wrote_two, wrote_set, wrote_all}
+use Rattle.writing.proofs.Packing.{after_fits, over_clear, packs, zero_bits}
 use Rattle.writing.proofs.Tagged.{length_ends, twice_depths, tag_length, tag_parts}
 use Rattle.writing.proofs.tagging.put_tag.Goals as goal
 
-pub put_two-requires : goal.put_two-requires
-put_two-requires g c =
-    omega (arith, tag_length (g.C.Code.words c.args.code.now) c.args.m.now c.requires.marked c.args.v c.requires.inside c.args.number, c.requires.room)
+pub split_at_mut-head-requires : goal.split_at_mut-head-requires
+split_at_mut-head-requires g c =
+    let m = c.args.m.now in
+    omega (arith, tag_length (g.C.Code.words m.code.now) m.up.row.now m.up.rooted c.args.v c.requires.inside _ _ (m.numbered c.args.v c.requires.inside) (m.counted c.args.v c.requires.inside) c.args.number, c.requires.room)
 
-pub overflow_cast-k-2 : goal.overflow_cast-k-2
-overflow_cast-k-2 g c =
-    omega (arith, few_fields c.args.m.now.up.now c.requires.marked.rooted (g.C.Code.words c.args.code.now) c.args.v c.requires.inside, c.requires.marked.numbered c.args.v c.requires.inside)
+pub split_at_mut-ends-requires : goal.split_at_mut-ends-requires
+split_at_mut-ends-requires g c =
+    let m = c.args.m.now in
+    omega (arith, tag_length (g.C.Code.words m.code.now) m.up.row.now m.up.rooted c.args.v c.requires.inside _ _ (m.numbered c.args.v c.requires.inside) (m.counted c.args.v c.requires.inside) c.args.number, c.requires.room)
 
-pub put_one-requires : goal.put_one-requires
-put_one-requires g c =
-    omega (arith, tag_length (g.C.Code.words c.args.code.now) c.args.m.now c.requires.marked c.args.v c.requires.inside c.args.number, c.requires.room)
+pub split_at_mut-depths-requires : goal.split_at_mut-depths-requires
+split_at_mut-depths-requires g c =
+    let m = c.args.m.now in
+    omega (arith, tag_length (g.C.Code.words m.code.now) m.up.row.now m.up.rooted c.args.v c.requires.inside _ _ (m.numbered c.args.v c.requires.inside) (m.counted c.args.v c.requires.inside) c.args.number, c.requires.room)
 
-pub put_ends-requires : goal.put_ends-requires
-put_ends-requires g c =
-    record { marked = c.requires.marked; inside = c.requires.inside; room = omega (arith, tag_length (g.C.Code.words c.args.code.now) c.args.m.now c.requires.marked c.args.v c.requires.inside c.args.number, c.requires.marked.numbered c.args.v c.requires.inside, c.requires.room) }
+pub overflow_cast-head : goal.overflow_cast-head
+overflow_cast-head g c =
+    let m = c.args.m.now in
+    omega (arith, few_fields m.up.row.now m.up.rooted (g.C.Code.words m.code.now) c.args.v c.requires.inside, m.numbered c.args.v c.requires.inside)
 
-pub put_depths-requires : goal.put_depths-requires
-put_depths-requires g c =
-    record { marked = c.requires.marked; inside = c.requires.inside; room = omega (arith, tag_length (g.C.Code.words c.args.code.now) c.args.m.now c.requires.marked c.args.v c.requires.inside c.args.number, c.requires.marked.numbered c.args.v c.requires.inside, c.requires.room) }
-
-pub put_packed-requires : goal.put_packed-requires
-put_packed-requires g c =
-    let he : body_bytes (row_label (g.C.Code.words c.args.code.now) c.args.m.now.up.now c.args.v) ≡ ((get_or c.args.m.now.bits.now c.args.v 0 + 7) / 8) = ap (λ (x : ℕ). (x + 7) / 8) (sym (c.requires.marked.counted c.args.v c.requires.inside)) in
-    record { marked = c.requires.marked; inside = c.requires.inside; room = omega (arith, tag_length (g.C.Code.words c.args.code.now) c.args.m.now c.requires.marked c.args.v c.requires.inside c.args.number, c.requires.room) }
+pub put_label-requires : goal.put_label-requires
+put_label-requires g c =
+    let m = c.args.m.now in
+    let f = g.C.Code.words m.code.now in
+    let k = m.numbered c.args.v c.requires.inside in
+    let b = m.counted c.args.v c.requires.inside in
+    let long = tag_length f m.up.row.now m.up.rooted c.args.v c.requires.inside _ _ k b c.args.number in
+    let most = few_bits m.up.row.now m.up.rooted f (g.C.Code.laws m.code.now) c.args.v c.requires.inside in
+    record {
+      inside = c.requires.inside;
+      ends_room = omega (arith, c.requires.room);
+      depths_room = omega (arith, c.requires.room);
+      body_room = omega (arith, c.requires.room);
+      long = omega (arith, c.requires.room);
+      clear = zero_bits c.fill.new.self (λ i h. search rules);
+    }
 
 pub returns : goal.returns
 unfolding row_tag
 returns g c =
-    let l = row_label (g.C.Code.words c.args.code.now) c.args.m.now.up.now c.args.v in
-    let k : get_or c.args.m.now.fields.now c.args.v 0 ≡ length l = c.requires.marked.numbered c.args.v c.requires.inside in
-    let n = get_or c.args.m.now.fields.now c.args.v 0 in
-    let E = flat_map two (ends_at l) in
-    let D = flat_map two (depths_in l) in
-    let H = two c.args.number ++ (n ∷ []) in
-    let e1 = length_two (ends_at l) in
-    let e2 = length_ends l in
-    let e3 = length-append H E in
-    let d1 = length_two (depths_in l) in
-    let d2 = twice_depths (g.C.Code.words c.args.code.now) c.args.m.now c.requires.marked c.args.v c.requires.inside in
-    let d3 = length-append (H ++ E) D in
-    subst (λ (bs : List ℕ). Wrote c.args.at bs c.args.out.now c.put_packed.new.out)
-    (ap (λ (x : ℕ). (((two c.args.number ++ (x ∷ [])) ++ E) ++ D) ++ pack (body_in l)) k ∙ sym (tag_parts c.args.number l))
-    (then (then (then (then c.put_two.ensures c.put_one.ensures (omega arith)) c.put_ends.ensures (omega arith)) c.put_depths.ensures (omega arith)) c.put_packed.ensures (omega arith))
+    let m = c.args.m.now in
+    let f = g.C.Code.words m.code.now in
+    let up = m.up.row.now in
+    let l = row_label f up c.args.v in
+    let k = m.numbered c.args.v c.requires.inside in
+    let b = m.counted c.args.v c.requires.inside in
+    let long = tag_length f up m.up.rooted c.args.v c.requires.inside _ _ k b c.args.number in
+    let twice = twice_depths f up m.up.rooted c.args.v c.requires.inside in
+    let long_ends = length_two (ends_at l) in
+    let many_ends = length_ends l in
+    let long_depths = length_two (depths_in l) in
+    let head : set c.put.new.out 2 (at m.fields.now c.args.v) ≡ two c.args.number ++ (length l ∷ []) =
+    wrote_all (then (wrote_two c.args.number (omega arith) c.to_le_bytes.ensures c.put.ensures) (wrote_set 2 (at m.fields.now c.args.v) c.put.new.out (omega arith)) (omega arith)) (omega arith)
+    ∙ ap (λ (x : ℕ). two c.args.number ++ (x ∷ [])) k in
+    let ends : c.put_label.new.ends ≡ flat_map two (ends_at l) = wrote_all c.put_label.ensures.ends (omega arith) in
+    let depths : c.put_label.new.depths ≡ flat_map two (depths_in l) = wrote_all c.put_label.ensures.depths (omega arith) in
+    let body : c.put_label.new.body ≡ pack (body_in l) =
+    packs c.put_label.new.body (body_in l) (omega (arith, c.requires.room)) (after_fits c.put_label.new.depths c.put_label.new.body (after_fits c.put_label.new.ends (c.put_label.new.depths ++ c.put_label.new.body) (after_fits (set c.put.new.out 2 (at m.fields.now c.args.v)) (c.put_label.new.ends ++ (c.put_label.new.depths ++ c.put_label.new.body)) (λ i. omega (arith, c.type_inv.out i)))))
+    (over_clear (body_in l) (unpacked c.fill.new.self) (unpacked c.put_label.new.body) c.put_label.ensures.body (zero_bits c.fill.new.self (λ i h. search rules))) in
+    (λ i. head i ++ (ends i ++ (depths i ++ body i))) ∙ sym (tag_parts c.args.number l)

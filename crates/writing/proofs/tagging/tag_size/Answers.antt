@@ -3,7 +3,12 @@ use Rattle.writing.proofs.Tagged.{tag_length, tag_small}
 use Rattle.writing.proofs.tagging.tag_size.Goals as goal
 
 pub returns : goal.returns
-returns g c = record {
-  is = λ number. omega (arith, tag_length (g.C.Code.words c.args.code.now) c.args.m.now c.requires.marked c.args.v c.requires.inside number, c.filled.ensures);
-  small = omega (arith, tag_small (g.C.Code.words c.args.code.now) c.args.m.now c.requires.marked c.args.v c.requires.inside (g.C.Code.laws c.args.code.now), c.filled.ensures);
-}
+returns g c =
+    let m = c.args.m.now in
+    let f = g.C.Code.words m.code.now in
+    let k = m.numbered c.args.v c.requires in
+    let b = m.counted c.args.v c.requires in
+    record {
+      is = λ number. omega (arith, tag_length f m.up.row.now m.up.rooted c.args.v c.requires _ _ k b number, c.filled.ensures);
+      small = omega (arith, tag_small f m.up.row.now m.up.rooted c.args.v c.requires _ _ k b (g.C.Code.laws m.code.now), c.filled.ensures);
+    }
