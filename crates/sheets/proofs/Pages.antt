@@ -163,6 +163,6 @@ module _ (parent : ℕ → Option ℕ) (n : ℕ) (word : List ℕ → ℕ → Wo
       let o1 = offset_there (v + 1) (omega arith) in
       let up = offset_next v in
       let r = rises (v + 1) (n - (v + 1)) (omega arith) in
-      found (sheet parent n word number) v (is_long (sheet parent n word number) v (omega arith) (omega arith)) (omega arith) (is_placed (sheet parent n word number) v (omega arith) (omega arith) (omega arith))
+      found (sheet parent n word number) v (is_long (sheet parent n word number) v (omega arith)) (omega arith) (is_placed (sheet parent n word number) v (omega arith) (omega arith) (omega arith))
       ∙ ap₂ (λ (x y : ℕ). Ok (between x y (sheet parent n word number))) o o1
       ∙ ap (λ (bs : List ℕ). Ok bs) (part_is v l)

@@ -3,7 +3,7 @@ use crate::look::{LookUpRefusal, look_up};
 use crate::press::{PressRefusal, press};
 use codes::bisection::Bisection;
 use codes::gilbert_moore::GilbertMoore;
-use trees::host::HostFault;
+use trees::host::{FaultKind, HostFault};
 use trees::indented::IndentedHost;
 
 const SMALL: [u16; 6] = [0, 1, 2, 2, 1, 2];
@@ -61,7 +61,10 @@ fn exact_memory(rt: HostRuntime) {
 
 #[test]
 fn press_refusals(rt: HostRuntime) {
-    let fault = HostFault { kind: 7, place: 0 };
+    let fault = HostFault {
+        kind: FaultKind::FirstLevel,
+        place: 0,
+    };
     assert_eq!(rt;
         pressed(&[1], 0, &mut [], &mut []),
         Err(PressRefusal::NumberZero)

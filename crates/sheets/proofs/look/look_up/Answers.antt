@@ -1,33 +1,21 @@
-use Rattle.std.proofs.Common.{ℕ, Bool, ◌||◌, ltb, List, length, Ok, Result, sym, ◌∙◌, ap₂}
-use Rattle.std.proofs.lemmas.Bool.{leb-true, leb-false}
-use Rattle.std.specs.List.{between}
-use Rattle.sheets.specs.declared.look.LookUpRefusal.{LookUpRefusal}
-use Rattle.sheets.specs.LookingUp.{nodes_of, header_of}
-use Rattle.sheets.proofs.Looked.{too_short, no_node, bad_offsets, found}
+use Rattle.std.proofs.Common.{◌≡◌, ℕ, arith}
+use Rattle.sheets.proofs.Looked.{is_long, is_short, is_early, too_short, no_node, bad_offsets, answered}
 use Rattle.sheets.proofs.look.look_up.Goals as goal
 
-pub returns-then-too_short : goal.returns-then-too_short
-returns-then-too_short c = record { told = too_short c.args.sheet.now c.args.v c.if-too_short.ensures }
+pub returns-then-sheet-first : goal.returns-then-sheet-first
+returns-then-sheet-first c = record { told = too_short c.args.sheet.now c.args.v (is_short c.args.sheet.now c.args.v (omega arith)) }
 
-pub returns-then-no_node : goal.returns-then-no_node
-returns-then-no_node c =
-    let l = leb-true (nodes_of c.args.sheet.now) c.args.v (sym c.if-no_node.ensures) in
-    record { told = no_node c.args.sheet.now c.args.v c.if-too_short.ensures l }
+pub returns-then-nodes-v : goal.returns-then-nodes-v
+returns-then-nodes-v c = record { told = no_node c.args.sheet.now c.args.v (is_long c.args.sheet.now c.args.v (omega arith)) (omega arith) }
 
-pub returns-then-misplaced : goal.returns-then-misplaced
-returns-then-misplaced c =
-    let bs = c.args.sheet.now in
-    let l = leb-false (nodes_of c.args.sheet.now) c.args.v (sym c.if-no_node.ensures) in
-    let t = c.if-misplaced.ensures ∙ ap₂ {C = Bool} (λ (x y : ℕ). ltb x (header_of bs) || (ltb y x || ltb (length bs) y)) c.offset-begin.ensures c.offset-end.ensures in
-    record { told = bad_offsets bs c.args.v c.if-too_short.ensures l t }
+pub returns-then-begin-first : goal.returns-then-begin-first
+returns-then-begin-first c =
+    record { told = bad_offsets c.args.sheet.now c.args.v (is_long c.args.sheet.now c.args.v (omega arith)) (omega arith) (is_early c.args.sheet.now c.args.v (omega arith)) }
 
 pub returns : goal.returns
 returns c =
-    let bs = c.args.sheet.now in
-    let l = leb-false (nodes_of c.args.sheet.now) c.args.v (sym c.if-no_node.ensures) in
-    let t = c.if-misplaced.ensures ∙ ap₂ {C = Bool} (λ (x y : ℕ). ltb x (header_of bs) || (ltb y x || ltb (length bs) y)) c.offset-begin.ensures c.offset-end.ensures in
     record {
       told =
-          found bs c.args.v c.if-too_short.ensures l t
-          ∙ sym (ap₂ {C = Result (List ℕ) LookUpRefusal} (λ (x y : ℕ). Ok (between x y bs)) c.offset-begin.ensures c.offset-end.ensures);
+          rw c.ok_or.ensures.value
+          (answered c.args.sheet.now c.args.v c.offset-begin.result c.offset-end.result c.get.result (omega arith) (omega arith) (omega arith) c.offset-begin.ensures c.offset-end.ensures c.get.ensures.lookup);
     }
