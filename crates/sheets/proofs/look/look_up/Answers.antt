@@ -1,4 +1,4 @@
-use Rattle.std.proofs.Common.{◌≡◌, ℕ, arith}
+use Rattle.std.proofs.Common.{arith}
 use Rattle.sheets.proofs.Looked.{is_long, is_short, is_early, too_short, no_node, bad_offsets, answered}
 use Rattle.sheets.proofs.look.look_up.Goals as goal
 

@@ -1,4 +1,4 @@
-use Rattle.std.proofs.Common.{◌≡◌, ℕ, ◌≤◌, length, sym, ap, ◌∙◌, arith}
+use Rattle.std.proofs.Common.{◌≤◌, length, sym, ap, ◌∙◌, arith}
 use Rattle.labels.specs.Sheet.{sheet}
 use Rattle.rows.specs.Rows.{parents_in}
 use Rattle.sheets.specs.Pressing.{press_output}

@@ -1,4 +1,4 @@
-use Rattle.std.proofs.Common.{◌≡◌, ℕ, length, Ok, sym, ap, ◌∙◌, arith}
+use Rattle.std.proofs.Common.{◌≡◌, length, Ok, sym, ap, ◌∙◌, arith}
 use Rattle.rows.specs.Rows.{parents_in}
 use Rattle.sheets.specs.Pressing.{measured, press_answer, press_output}
 use Rattle.sheets.proofs.Promised.{kept}
@@ -15,7 +15,7 @@ returns-clause-keeps g c =
     let code = c.fill-marks.ensures.same in
     let many : length marks.up.row.now ≡ n = omega arith in
     let same : measured (parents_in marks.up.row.now) (words marks.code.now) c.args.number (length marks.up.row.now) room ≡ measured parent (words c.args.code.now) c.args.number n room =
-        λ i. measured (held i) (words (code i)) c.args.number (many i) room in
+    λ i. measured (held i) (words (code i)) c.args.number (many i) room in
     let e : g.H.Host.verdicts c.args.host.now ≡ Ok n = sym c.in_ok-n.ensures in
     kept parent (words c.args.code.now) c.args.number n room (g.H.Host.verdicts c.args.host.now) c.args.out.now c.finish.new.out c.finish.result e
     (g.H.Host.laws c.args.host.now n e) (g.C.Code.laws c.args.code.now) (omega (arith, c.if-number-eq0.false)) (omega (arith, c.ranges.number.fits))
