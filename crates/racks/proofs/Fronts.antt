@@ -1,24 +1,17 @@
 -- The first fields of a tag, written over the front of an output with room for any tag.
 use Rattle.std.proofs.Common.{◌≡◌, ℕ, ◌-◌, ◌%◌, ◌≤◌, List, length, take, drop, None, Ok, Result, refl, ap, ◌∙◌, arith}
+use Rattle.std.specs.List.{refill}
 use Rattle.std.proofs.lemmas.List.{take_at}
 use Rattle.formats.specs.declared.fault.CutRefusal.{CutRefusal}
 use Rattle.formats.specs.Faults.{tag_fault}
-use Rattle.formats.specs.Label.{Label}
-use Rattle.formats.specs.Layout.{tree_of, count_of}
+use Rattle.formats.specs.Layout.{count_of}
 use Rattle.formats.specs.Limits.{most_tag_bytes}
-use Rattle.formats.specs.Models.{label_of, outcome}
+use Rattle.formats.specs.Models.{outcome}
 use Rattle.formats.specs.Cuts.{cut_tag, cut_fault, cut_answer, cut_output, written_over}
-use Rattle.formats.specs.Theorems.{Bytes, Shortened}
+use Rattle.formats.specs.Theorems.{Bytes}
 use Rattle.formats.proofs.Readable.{is_readable}
 use Rattle.formats.proofs.Spans.{span}
 use Rattle.formats.proofs.CutTags.{cut_fine}
-use Rattle.formats.proofs.Read.{outcome_ok}
-
--- a cut tag reads, and has the tree number of its tag
-pub cut_sound : (bs : List ℕ) (m : ℕ) (cs : List ℕ) → Shortened bs m cs → (tag_fault cs ≡ None) × (tree_of cs ≡ tree_of bs)
-cut_sound bs m cs s =
-    let r = outcome_ok {X = ℕ × Label} (tag_fault cs) (tree_of cs, label_of cs) (tree_of bs, take m (label_of bs)) s.reads in
-    (r.0, ap (λ (x : ℕ × Label). x.0) r.1)
 
 module _ (bs : List ℕ) (m : ℕ) (small : Bytes bs) (f : tag_fault bs ≡ None) (odd : m % 2 ≡ 1) (within : m ≤ count_of bs) (out : List ℕ) (room : length out ≡ most_tag_bytes) where
   fine : cut_fault bs m (length out) ≡ None
@@ -36,3 +29,7 @@ module _ (bs : List ℕ) (m : ℕ) (small : Bytes bs) (f : tag_fault bs ≡ None
   front_bytes new e =
       ap (take (length (cut_tag bs m))) (e ∙ ap (λ o. written_over o (cut_tag bs m) out) fine)
       ∙ take_at (cut_tag bs m) (drop (length (cut_tag bs m)) out) (length (cut_tag bs m)) refl
+
+-- an array written over by as many bytes
+pub refilled : (n : ℕ) (old new : List ℕ) → length new ≡ n → refill n old new ≡ new
+refilled n old new h = take_at new (drop (length new) old) n h

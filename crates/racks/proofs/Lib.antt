@@ -1,4 +1,3 @@
 pub mod Verdicts
 pub mod Fronts
 pub mod Rows
-pub mod Writing

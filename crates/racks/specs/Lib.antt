@@ -1,3 +1,4 @@
+pub mod Refusals
 pub mod Tags
 pub mod Sound
 pub mod Views

@@ -1,19 +1,18 @@
 -- What the code's values are in the words of the model.
-use Rattle.std.specs.Prelude.{ℕ, List, ◌++◌, map, take, drop, Some, None, Ok, Err, Result}
+use Rattle.std.specs.Prelude.{ℕ, Bool, List, ◌++◌, map, take, drop, Some, None, Ok, Err, Result}
 use Rattle.formats.specs.declared.answers.Related.{Related}
-use Rattle.histories.specs.Model.{Cell, empty, opened, started, State, Ticket, opened_ticket, started_ticket, Refusal, no_such_place, not_empty, does_not_fit, not_started, in_tag, other_tree, not_one_tree, short_output, Answer, refuses, hands, writes, relates, spends}
+use Rattle.histories.specs.Model.{Cell, empty, opened, started, State, Ticket, Stage, opened_ticket, started_ticket, cell, fits, Refusal, no_such_place, not_empty, does_not_fit, not_started, in_tag, other_tree, not_one_tree, short_output, Answer, refuses, hands, writes, relates, spends}
 use Rattle.racks.specs.declared.rack.Rack.{Rack}
 use Rattle.racks.specs.declared.place.Place.{Place}
 use Rattle.racks.specs.declared.place.Place.TheVariants.{Empty, Opened, Started}
 use Rattle.racks.specs.declared.refusal.RackRefusal.{RackRefusal}
 use Rattle.racks.specs.declared.refusal.RackRefusal.TheVariants.{NoSuchPlace, NotEmpty, DoesNotFit, NotStarted, InTag, OtherTree, NotOneTree, ShortOutput}
 use Rattle.racks.specs.declared.refusal.Refused.{Refused}
-use Rattle.racks.specs.declared.ticket.OpenedTicket.{OpenedTicket}
-use Rattle.racks.specs.declared.ticket.StartedTicket.{StartedTicket}
+use Rattle.racks.specs.declared.ticket.Opened.{Opened as ToOpened}
+use Rattle.racks.specs.declared.ticket.Started.{Started as ToStarted}
+use Rattle.racks.specs.declared.ticket.Ticket.{Ticket as TicketOf}
 use Rattle.racks.specs.declared.ticket.AnyTicket.{AnyTicket}
 use Rattle.racks.specs.declared.ticket.AnyTicket.TheVariants as either
-use Rattle.racks.specs.declared.ticket.Stage.{Stage}
-use Rattle.racks.specs.declared.ticket.Stage.TheVariants as stages
 use Rattle.racks.specs.Sound.{held_bytes}
 
 -- the rack
@@ -31,6 +30,12 @@ state_of r = state r.number r.tree r.places
 
 -- tickets
 
+abbrev pub OpenedTicket : Type 0
+OpenedTicket = TicketOf ToOpened
+
+abbrev pub StartedTicket : Type 0
+StartedTicket = TicketOf ToStarted
+
 abbrev pub opened_of : OpenedTicket → Ticket
 opened_of t = opened_ticket t.rack t.place
 
@@ -41,10 +46,13 @@ abbrev pub ticket_of : AnyTicket → Ticket
 ticket_of (either.Opened t) = opened_of t
 ticket_of (either.Started t) = started_of t
 
--- a ticket of that rack number, place and state
-abbrev pub named : ℕ → ℕ → Stage → Ticket
-named rack place stages.Opened = opened_ticket rack place
-named rack place stages.Started = started_ticket rack place
+-- a ticket of either kind, for the state that its kind stands for
+abbrev pub named : {S : Type 0} → Stage → TicketOf S → Ticket
+named stage t = record { rack = t.rack; place = t.place; stage = stage }
+
+-- the ticket fits the rack
+abbrev pub fitting : Rack → Ticket → Bool
+fitting r t = fits r.number (cell (state_of r) t.place) t
 
 -- refusals, case by case
 

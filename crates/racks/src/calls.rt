@@ -1,15 +1,19 @@
 // The calls of a rack. Each answers what the model answers to it in the state before, and leaves the model's state after it.
-ghost use Rattle.std.specs.Prelude.{◌≡◌, ◌<◌, length};
-ghost use Rattle.histories.specs.Model.{place_count, fresh, opens, starts, adds, covers, closes, compares, abandons, after, answer, spends};
+ghost use Rattle.std.specs.Prelude.{◌≡◌, true, false, length, Some, MatchResult};
+ghost use Rattle.formats.specs.Layout.{tree_of};
+ghost use Rattle.histories.specs.Model.{fresh, opens, starts, adds, covers, closes, compares, abandons, after, answer, refuses, hands, spends, started, traded, cell, put};
 ghost use Rattle.histories.specs.Promises.{Promises, the_rack};
-ghost use Rattle.racks.specs.Views.{state_of, opened_of, started_of, ticket_of, named, open_said, start_said, add_said, cover_said, close_said, compare_said, output_of};
+ghost use Rattle.racks.specs.Sound.{held_bytes};
+ghost use Rattle.racks.specs.Views.{state_of, opened_of, started_of, ticket_of, named, fitting, refusal_of, open_said, start_said, add_said, cover_said, close_said, compare_said, output_of};
 
 use crate::held::Held;
 use crate::place::{PLACES, Place};
 use crate::rack::Rack;
 use crate::refusal::{RackRefusal, Refused};
-use crate::ticket::{AnyTicket, OpenedTicket, Stage, StartedTicket};
+use crate::stage::Stage;
+use crate::ticket::{AnyTicket, Opened, OpenedTicket, StartedTicket, Ticket};
 use formats::answers::Related;
+use std::array;
 
 impl Rack {
     // A new rack: the two numbers as they are given, whatever they are, and every place empty. It keeps the promises.
@@ -17,11 +21,10 @@ impl Rack {
         ensures made { state_of result ≡ fresh rack_number tree_number }
         ensures promises { Promises the_rack rack_number tree_number }
     {
-        const EMPTY: Place = Place::Empty;
         Rack {
             number: rack_number,
             tree: tree_number,
-            places: [EMPTY; PLACES],
+            places: array::from_fn(|_| Place::Empty),
         }
     }
 
@@ -33,17 +36,15 @@ impl Rack {
         if place >= PLACES {
             return Err(RackRefusal::NoSuchPlace);
         }
-        match &self.places[place] {
-            Place::Empty => {
-                self.places[place] = Place::Opened;
-                Ok(OpenedTicket {
-                    rack: self.number,
-                    place,
-                })
-            }
-            Place::Opened => Err(RackRefusal::NotEmpty),
-            Place::Started(_) => Err(RackRefusal::NotEmpty),
+        if !matches!(self.places[place], Place::Empty) {
+            return Err(RackRefusal::NotEmpty);
         }
+        self.places[place] = Place::Opened;
+        Ok(Ticket {
+            rack: self.number,
+            place,
+            stage: Opened,
+        })
     }
 
     // Puts a first tag on an opened place, and trades the ticket for a started one.
@@ -55,29 +56,12 @@ impl Rack {
         ensures answers { start_said result ≡ answer (state_of self.old) (starts (opened_of ticket) tag.now) }
         ensures leaves { state_of self.new ≡ after (state_of self.old) (starts (opened_of ticket) tag.now) }
     {
-        if ticket.rack != self.number {
-            return Err(Refused {
-                why: RackRefusal::DoesNotFit,
-                ticket,
-            });
-        }
-        match &self.places[ticket.place] {
-            Place::Opened => match Held::first(self.tree, tag) {
-                Ok(held) => {
-                    let OpenedTicket { rack, place } = ticket;
-                    self.places[place] = Place::Started(held);
-                    Ok(StartedTicket { rack, place })
-                }
-                Err(why) => Err(Refused { why, ticket }),
-            },
-            Place::Empty => Err(Refused {
-                why: RackRefusal::DoesNotFit,
-                ticket,
-            }),
-            Place::Started(_) => Err(Refused {
-                why: RackRefusal::DoesNotFit,
-                ticket,
-            }),
+        match self.first_held(&ticket, tag) {
+            Ok(held) => {
+                self.places[ticket.place] = Place::Started(held);
+                Ok(ticket.traded())
+            }
+            Err(why) => Err(Refused { why, ticket }),
         }
     }
 
@@ -86,18 +70,9 @@ impl Rack {
         ensures answers { add_said ticket.now result ≡ answer (state_of self.old) (adds (started_of ticket.now) tag.now) }
         ensures leaves { state_of self.new ≡ after (state_of self.old) (adds (started_of ticket.now) tag.now) }
     {
-        if ticket.rack != self.number {
-            return Err(RackRefusal::DoesNotFit);
-        }
-        match &self.places[ticket.place] {
-            Place::Started(held) => {
-                let cover = held.joined_with(self.tree, tag)?;
-                self.places[ticket.place] = Place::Started(cover);
-                Ok(())
-            }
-            Place::Empty => Err(RackRefusal::DoesNotFit),
-            Place::Opened => Err(RackRefusal::DoesNotFit),
-        }
+        let cover = self.held(ticket)?.joined_with(tag)?;
+        self.places[ticket.place] = Place::Started(cover);
+        Ok(())
     }
 
     // Writes the held tag over the front of `out`, and answers its length.
@@ -105,14 +80,7 @@ impl Rack {
         ensures answers { cover_said ticket.now result out.new ≡ answer (state_of self.now) (covers (started_of ticket.now) (length out.old)) }
         ensures output { out.new ≡ output_of (answer (state_of self.now) (covers (started_of ticket.now) (length out.old))) out.old }
     {
-        if ticket.rack != self.number {
-            return Err(RackRefusal::DoesNotFit);
-        }
-        match &self.places[ticket.place] {
-            Place::Started(held) => held.write(out),
-            Place::Empty => Err(RackRefusal::DoesNotFit),
-            Place::Opened => Err(RackRefusal::DoesNotFit),
-        }
+        self.held(ticket)?.write(out)
     }
 
     // How the nodes of the tags on two places stand to each other; it may be one place.
@@ -124,10 +92,7 @@ impl Rack {
         }
         match (&self.places[first], &self.places[second]) {
             (Place::Started(a), Place::Started(b)) => a.related_to(b),
-            (Place::Empty, _) => Err(RackRefusal::NotStarted),
-            (Place::Opened, _) => Err(RackRefusal::NotStarted),
-            (Place::Started(_), Place::Empty) => Err(RackRefusal::NotStarted),
-            (Place::Started(_), Place::Opened) => Err(RackRefusal::NotStarted),
+            _ => Err(RackRefusal::NotStarted),
         }
     }
 
@@ -143,11 +108,8 @@ impl Rack {
     {
         match self.cover(&ticket, out) {
             Ok(len) => {
-                let StartedTicket {
-                    rack: _,
-                    place: closed,
-                } = ticket;
-                self.places[closed] = Place::Empty;
+                self.places[ticket.place] = Place::Empty;
+                ticket.spend();
                 Ok(len)
             }
             Err(why) => Err(Refused { why, ticket }),
@@ -160,38 +122,53 @@ impl Rack {
         ensures leaves { state_of self.new ≡ after (state_of self.old) (abandons (ticket_of ticket)) }
     {
         match ticket {
-            AnyTicket::Opened(opened) => {
-                let OpenedTicket { rack, place } = opened;
-                self.give_up(rack, place, Stage::Opened)
-            }
-            AnyTicket::Started(started) => {
-                let StartedTicket { rack, place } = started;
-                self.give_up(rack, place, Stage::Started)
-            }
+            AnyTicket::Opened(opened) => self.give_up(opened),
+            AnyTicket::Started(started) => self.give_up(started),
         }
     }
 
-    // Empties a place that is in that state, if the rack has that number.
-    fn give_up(&mut self, rack: u16, place: usize, stage: Stage) -> bool
-        requires { place < place_count }
-        ensures answers { spends result ≡ answer (state_of self.old) (abandons (named rack place stage)) }
-        ensures leaves { state_of self.new ≡ after (state_of self.old) (abandons (named rack place stage)) }
+    // The same of one kind of ticket.
+    fn give_up<S: Stage>(&mut self, ticket: Ticket<S>) -> bool
+        ensures answers { spends result ≡ answer (state_of self.old) (abandons (named S.stage ticket)) }
+        ensures leaves { state_of self.new ≡ after (state_of self.old) (abandons (named S.stage ticket)) }
     {
-        if rack != self.number {
-            return false;
+        let fits = self.fits(&ticket);
+        let place = ticket.place;
+        ticket.spend();
+        if fits {
+            self.places[place] = Place::Empty;
         }
-        match (&self.places[place], stage) {
-            (Place::Opened, Stage::Opened) => {
-                self.places[place] = Place::Empty;
-                true
-            }
-            (Place::Started(_), Stage::Started) => {
-                self.places[place] = Place::Empty;
-                true
-            }
-            (Place::Empty, _) => false,
-            (Place::Opened, Stage::Started) => false,
-            (Place::Started(_), Stage::Opened) => false,
+        fits
+    }
+
+    // Whether the ticket is of this rack, and its place in the state that it names.
+    fn fits<S: Stage>(&self, ticket: &Ticket<S>) -> bool
+        ensures { result ≡ fitting self.now (named S.stage ticket.now) }
+    {
+        ticket.rack == self.number && ticket.stage.is_of(&self.places[ticket.place])
+    }
+
+    // What the ticket's place is to hold, where the ticket fits and the rack takes the tag.
+    fn first_held(&self, ticket: &OpenedTicket, tag: &[u8]) -> Result<Held, RackRefusal>
+        ensures { let s = state_of self.now in
+            let t = opened_of ticket.now in
+            let call = starts t tag.now in
+            MatchResult result (λ h. (answer s call ≡ hands (traded t)) × (after s call ≡ put s t.place (started (held_bytes h))) × (tree_of (held_bytes h) ≡ self.now.tree)) (λ e. (answer s call ≡ refuses (refusal_of e) (Some t)) × (after s call ≡ s)) }
+    {
+        if !self.fits(ticket) {
+            return Err(RackRefusal::DoesNotFit);
+        }
+        Held::first(self.tree, tag)
+    }
+
+    // What the ticket's place holds, where the ticket fits.
+    fn held(&self, ticket: &StartedTicket) -> Result<&Held, RackRefusal>
+        ensures { let t = started_of ticket.now in
+            MatchResult result (λ h. (fitting self.now t ≡ true) × (cell (state_of self.now) t.place ≡ started (held_bytes h.now)) × (tree_of (held_bytes h.now) ≡ self.now.tree)) (λ e. (e ≡ RackRefusal.DoesNotFit) × (fitting self.now t ≡ false)) }
+    {
+        match &self.places[ticket.place] {
+            Place::Started(held) if ticket.rack == self.number => Ok(held),
+            _ => Err(RackRefusal::DoesNotFit),
         }
     }
 }

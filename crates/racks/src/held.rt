@@ -1,14 +1,13 @@
 // A held tag.
-ghost use Rattle.std.specs.Prelude.{◌≡◌, ◌≤◌, true, length, take};
+ghost use Rattle.std.specs.Prelude.{◌≡◌, true};
 ghost use Rattle.racks.specs.Tags.{readable};
 
+use arrayvec::ArrayVec;
 use tags::limits::MOST_TAG_BYTES;
 
-// The first `len` of the bytes are a tag.
+// The bytes are a tag.
 #[derive(Drop)]
 pub(crate) struct Held {
-    pub(crate) bytes: [u8; MOST_TAG_BYTES],
-    pub(crate) len: usize,
-    ghost within: { len ≤ length bytes },
-    ghost reads: { readable (take len bytes) ≡ true },
+    pub(crate) bytes: ArrayVec<u8, MOST_TAG_BYTES>,
+    ghost reads: { readable bytes.items ≡ true },
 }

@@ -7,6 +7,7 @@ mod holding;
 mod place;
 pub mod rack;
 pub mod refusal;
+mod stage;
 #[cfg(test)]
 mod tests;
 pub mod ticket;

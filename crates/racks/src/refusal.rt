@@ -1,9 +1,11 @@
 // Why a call is refused.
 ghost use Rattle.std.specs.Prelude.{◌≡◌};
 ghost use Rattle.histories.specs.Model.{refusal_number};
+ghost use Rattle.racks.specs.Refusals.{refused_pair};
 ghost use Rattle.racks.specs.Views.{refusal_of};
+ghost use Rattle.racks.specs.declared.refusal.RackRefusal.TheVariants.{InTag};
 
-use formats::fault::TagFault;
+use formats::fault::{PairRefusal, TagFault};
 
 #[derive(Clone, Copy, Debug, PartialEq, Eq)]
 pub enum RackRefusal {
@@ -31,7 +33,30 @@ pub struct Refused<K> {
     pub ticket: K,
 }
 
+// Bytes that are no tag.
+impl From<TagFault> for RackRefusal {
+    ghost from_gives = { λ fault e. e ≡ InTag fault };
+
+    fn from(fault: TagFault) -> RackRefusal {
+        RackRefusal::InTag { fault }
+    }
+}
+
+// A query on a held tag and one more, or on two held tags.
+impl From<PairRefusal> for RackRefusal {
+    ghost from_gives = { λ why e. e ≡ refused_pair why };
+
+    fn from(why: PairRefusal) -> RackRefusal {
+        match why {
+            PairRefusal::OneTag { side: _, fault } => RackRefusal::InTag { fault },
+            PairRefusal::TreeNumbers => RackRefusal::OtherTree,
+            PairRefusal::NotOneTree => RackRefusal::NotOneTree,
+        }
+    }
+}
+
 impl RackRefusal {
+    // A match, since a carried fault has a number of its own.
     pub fn number(&self) -> u8
         ensures { result ≡ refusal_number (refusal_of self.now) }
     {

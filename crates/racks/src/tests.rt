@@ -1,7 +1,7 @@
 // One job on two places, each refusal that is the rack's own, and tickets that are handed back.
 use crate::rack::Rack;
 use crate::refusal::Refused;
-use crate::ticket::{AnyTicket, StartedTicket};
+use crate::ticket::{AnyTicket, OpenedTicket, StartedTicket};
 use formats::answers::{Related, Relation};
 
 // Path 01 at depth 0, branch 1, path 11 at depth 2.
@@ -16,15 +16,18 @@ const STRANGE: [u8; 8] = [7, 0, 1, 2, 0, 0, 0, 0xc0];
 // As TOP, of tree number 8.
 const OTHER: [u8; 8] = [8, 0, 1, 2, 0, 0, 0, 0x40];
 
+// What a refusal to start says, and whether the ticket that it hands back fits its rack.
+fn handed_back(rack: &mut Rack, refused: Refused<OpenedTicket>) -> (u8, bool) {
+    let Refused { why, ticket } = refused;
+    (why.number(), rack.abandon(AnyTicket::Opened(ticket)))
+}
+
 // Opens a place of one rack and starts it on another: the number of the refusal, or 0, and whether the ticket then in hand fits its rack.
 fn carried(from: &mut Rack, to: &mut Rack, tag: &[u8]) -> (u8, bool) {
     match from.open(1) {
         Ok(opened) => match to.start(opened, tag) {
             Ok(started) => (0, to.abandon(AnyTicket::Started(started))),
-            Err(refused) => {
-                let Refused { why, ticket } = refused;
-                (why.number(), from.abandon(AnyTicket::Opened(ticket)))
-            }
+            Err(refused) => handed_back(from, refused),
         },
         Err(why) => (why.number(), false),
     }
@@ -35,10 +38,7 @@ fn tried(rack: &mut Rack, place: usize, tag: &[u8]) -> (u8, bool) {
     match rack.open(place) {
         Ok(opened) => match rack.start(opened, tag) {
             Ok(started) => (0, rack.abandon(AnyTicket::Started(started))),
-            Err(refused) => {
-                let Refused { why, ticket } = refused;
-                (why.number(), rack.abandon(AnyTicket::Opened(ticket)))
-            }
+            Err(refused) => handed_back(rack, refused),
         },
         Err(why) => (why.number(), false),
     }
@@ -46,16 +46,13 @@ fn tried(rack: &mut Rack, place: usize, tag: &[u8]) -> (u8, bool) {
 
 // A place that is opened and started.
 fn begun(rack: &mut Rack, place: usize, tag: &[u8]) -> Option<StartedTicket> {
-    match rack.open(place) {
-        Ok(opened) => match rack.start(opened, tag) {
-            Ok(started) => Some(started),
-            Err(refused) => {
-                let Refused { why: _, ticket } = refused;
-                rack.abandon(AnyTicket::Opened(ticket));
-                None
-            }
-        },
-        Err(_) => None,
+    let opened = rack.open(place).ok()?;
+    match rack.start(opened, tag) {
+        Ok(started) => Some(started),
+        Err(refused) => {
+            handed_back(rack, refused);
+            None
+        }
     }
 }
 
@@ -91,10 +88,7 @@ fn finished(
 
 // How two places compare, or the number of the refusal.
 fn compared(rack: &Rack, first: usize, second: usize) -> Result<Related, u8> {
-    match rack.compare(first, second) {
-        Ok(found) => Ok(found),
-        Err(why) => Err(why.number()),
-    }
+    rack.compare(first, second).map_err(|why| why.number())
 }
 
 #[test]
