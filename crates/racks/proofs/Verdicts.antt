@@ -1,6 +1,6 @@
 -- The refusals of a tag on a rack, from what is known of its bytes.
-use Rattle.std.proofs.Common.{◌≡◌, ℕ, ◌≤◌, Bool, true, false, cond, not, ◌==◌, List, length, Some, None, Ok, Err, Option, ◌⊎◌, inl, inr, sym, refl, ap, ◌∙◌, arith}
-use Rattle.std.proofs.lemmas.Bool.{cases_eq}
+use Rattle.std.proofs.Common.{◌≡◌, ℕ, ◌≤◌, Bool, true, false, cond, not, ◌==◌, List, length, Some, None, Ok, Err, Option, sym, refl, ap, ◌∙◌, arith}
+use Rattle.std.proofs.lemmas.Bool.{eqb-true}
 use Rattle.std.proofs.lemmas.Bool.Decides.{nat_tests}
 use Rattle.formats.specs.declared.fault.TagFault.{TagFault}
 use Rattle.formats.specs.declared.fault.PairRefusal.{PairRefusal}
@@ -15,7 +15,7 @@ use Rattle.formats.specs.declared.answers.Part.{Part}
 use Rattle.formats.specs.declared.answers.Side.{Side}
 use Rattle.formats.specs.declared.answers.Side.TheVariants.{First, Second}
 use Rattle.formats.specs.Queries.{fault_on, pair_fault, cover_answer}
-use Rattle.formats.proofs.Answering.{fault_second, fault_numbers, length_label}
+use Rattle.formats.proofs.Answering.{length_label}
 use Rattle.formats.proofs.Read.{outcome_ok, outcome_err}
 use Rattle.histories.specs.Model.{Refusal, in_tag, other_tree, not_one_tree, own_fault, start_fault, add_fault, part_of, joined}
 use Rattle.racks.specs.Refusals.{refused_pair}
@@ -71,12 +71,14 @@ module _ (h b : List ℕ) (f : tag_fault h ≡ None) where
 
   -- tags of which no query is refused have one number
   one_number : pair_fault h b ≡ None → tree_of b ≡ tree_of h
-  one_number n = go (tag_fault b) (cases_eq (tree_of h) (tree_of b)) refl
+  one_number n =
+      sym
+      (go (tag_fault b) (tree_of h == tree_of b) refl (sym (ap (λ o. fault_on First o (fault_on Second (tag_fault b) (cond (not (tree_of h == tree_of b)) (Some TreeNumbers) Clash))) f) ∙ n))
     where
-      go : (o : Option TagFault) → (tree_of h ≡ tree_of b) ⊎ (tree_of h ≡ tree_of b → ⊥) → tag_fault b ≡ o → tree_of b ≡ tree_of h
-      go (Some fault) d g = let k = fault_second h b f fault g in cc
-      go None (inl e) g = sym e
-      go None (inr e) g = let k = fault_numbers h b f g e in cc
+      go : (o : Option TagFault) (t : Bool) → tree_of h == tree_of b ≡ t → fault_on Second o (cond (not t) (Some TreeNumbers) Clash) ≡ None → tree_of h ≡ tree_of b
+      go (Some fault) t g k = cc
+      go None true g k = eqb-true (tree_of h) (tree_of b) g
+      go None false g k = cc
 
   pub join_refused : (why : PairRefusal) → Err why ≡ cover_answer h b → add_fault (tree_of h) h b ≡ Some (refusal_of (refused_pair why))
   join_refused why a = add_is ∙ ap told_of (outcome_err _ _ why a)
