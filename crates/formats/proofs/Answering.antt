@@ -56,7 +56,7 @@ nth_map f (suc n) i (suc j) =
 
 -- the fields of bytes, one by one
 pub nth_label : (bs : List ℕ) (i : ℕ) → nth_field (label_of bs) i ≡ cond (ltb i (count_of bs)) (Some (field_at bs i)) None
-nth_label bs i = let z : 0 + i ≡ i = omega arith in nth_map (field_at bs) (count_of bs) 0 i ∙ ap (λ k. cond (ltb i (count_of bs)) (Some (field_at bs k)) None) z
+nth_label bs i = grind (arith, nth_map)
 
 -- the depth that an odd number of fields ends with
 pub depth_after : (bs : List ℕ) (n : ℕ) → n % 2 ≡ 1 → n ≤ count_of bs → last_depth (take n (label_of bs)) ≡ depth_at bs (n / 2)

@@ -1,7 +1,9 @@
 -- A cut tag reads as the first fields of the tag.
 use Rattle.std.proofs.Common.{◌≡◌, ℕ, zero, suc, ◌+◌, ◌-◌, ◌*◌, ◌/◌, ◌%◌, ◌^◌, ◌<◌, ◌≤◌, false, eqb, List, [], map, length, get_or, take, drop, sym, refl, ap, ◌∙◌, ⊎_elim, arith, get_or-drop}
+use Rattle.std.proofs.lemmas.Grind.{common_steps}
+use Rattle.std.proofs.lemmas.Bool.Decides.{nat_tests}
 use Rattle.std.specs.List.{range_with_len}
-use Rattle.std.proofs.lemmas.Nat.{shr_split, shl-shr, shr-shr, pow_pos, mod_low}
+use Rattle.std.proofs.lemmas.Nat.{shr_split, shl-shr, shr-shr}
 use Rattle.std.proofs.lemmas.List.FromFn.{fill_by_all, length-map-range_with_len, get_or-map-range_with_len, take-map-range_with_len}
 use Rattle.std.proofs.lemmas.Bool.{cases_lt}
 use Rattle.formats.specs.Label.{branch}
@@ -31,7 +33,7 @@ cleared_is : (b n : ℕ) → cleared b n ≡ b / 2 ^ n * 2 ^ n
 cleared_is b n = omega (arith, shr_split b n)
 
 cleared_low : (b n : ℕ) → cleared b n % 2 ^ n ≡ 0
-cleared_low b n = ap (λ x. x % 2 ^ n) (cleared_is b n ∙ let z : b / 2 ^ n * 2 ^ n ≡ b / 2 ^ n * 2 ^ n + 0 = omega arith in z) ∙ mod_low (b / 2 ^ n) n 0 (pow_pos n)
+cleared_low b n = grind (arith, nat_tests, common_steps)
 
 cleared_high : (b n d : ℕ) → cleared b n / 2 ^ (n + d) ≡ b / 2 ^ (n + d)
 cleared_high b n d =

@@ -1,13 +1,15 @@
 -- A cut tag is the bytes of its first fields.
-use Rattle.std.proofs.Common.{◌≡◌, ℕ, ◌+◌, ◌-◌, ◌*◌, ◌%◌, ◌<◌, ◌≤◌, ◌||◌, eqb, ltb, List, [], ◌∷◌, ◌++◌, length, get_or, take, drop, Some, None, Ok, Err, sym, ap, ◌∙◌, subst, arith}
+use Rattle.std.proofs.Common.{◌≡◌, ℕ, ◌+◌, ◌-◌, ◌*◌, ◌%◌, ◌<◌, ◌≤◌, ltb, List, [], ◌∷◌, ◌++◌, length, get_or, take, drop, Some, None, Ok, Err, sym, ap, ◌∙◌, subst, arith}
+use Rattle.std.proofs.lemmas.Grind.{common_steps}
+use Rattle.std.proofs.lemmas.Bool.Decides.{nat_tests}
 use Rattle.std.proofs.lemmas.List.FromFn.{take-map-range_with_len}
 use Rattle.std.proofs.lemmas.List.{take_at}
-use Rattle.std.proofs.lemmas.Bool.{cond-true, cond-false, or_from, ne_eqb, le-ltb, lt-ltb}
-use Rattle.formats.specs.declared.fault.CutRefusal.TheVariants.{Fields, Room}
+use Rattle.std.proofs.lemmas.Bool.{cond-true, cond-false, le-ltb, lt-ltb}
+use Rattle.formats.specs.declared.fault.CutRefusal.TheVariants.{Room}
 use Rattle.formats.specs.Faults.{first_of, tag_fault}
 use Rattle.formats.specs.Layout.{tree_of, count_of, end_at, spare_of}
 use Rattle.formats.specs.Models.{tag_bytes, field_at, label_of, outcome, read_tag}
-use Rattle.formats.specs.Cuts.{cut_tag, cut_after, cut_fault, cut_answer, written_over, cut_output}
+use Rattle.formats.specs.Cuts.{cut_tag, cut_fault, cut_answer, written_over, cut_output}
 use Rattle.formats.specs.Theorems.{Bytes, Shortened}
 use Rattle.formats.proofs.Readable.{Readable, no_fault, is_readable}
 use Rattle.formats.proofs.Small.{bytes_append, bytes_between, byte_one}
@@ -43,9 +45,7 @@ module _ (bs : List ℕ) (m : ℕ) (small : Bytes bs) (f : tag_fault bs ≡ None
       ∙ (kept bs (count_of bs) m (end_at bs (m - 1)) within (omega (arith, s.some)) (omega (arith, s.inside, ok.size))).size
 
   to_room : (room : ℕ) → cut_fault bs m room ≡ first_of ((ltb room (length (cut_tag bs m)), Room) ∷ [])
-  to_room room =
-      ap (λ o. cut_after o (first_of ((eqb (m % 2) 0 || ltb (count_of bs) m, Fields) ∷ (ltb room (length (cut_tag bs m)), Room) ∷ []))) f
-      ∙ cond-false _ _ _ (or_from _ _ (ne_eqb (m % 2) 0 (λ e. omega arith)) (le-ltb (count_of bs) m within))
+  to_room room = grind (arith, nat_tests, common_steps)
 
   -- refused for want of room, and only for that
   pub cut_room : (room : ℕ) → room < cut_size bs m → cut_fault bs m room ≡ Some Room

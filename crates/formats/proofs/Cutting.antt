@@ -1,8 +1,10 @@
 -- A cut tag, part by part, and what it keeps of the tag.
 use Rattle.std.proofs.Common.{◌≡◌, ℕ, ◌+◌, ◌-◌, ◌*◌, ◌/◌, ◌%◌, ◌^◌, ◌<◌, ◌≤◌, List, [], ◌∷◌, ◌++◌, length, get_or, sym, refl, ap, ◌∙◌, arith}
+use Rattle.std.proofs.lemmas.Grind.{common_steps}
+use Rattle.std.proofs.lemmas.Bool.Decides.{nat_tests}
 use Rattle.std.specs.List.{between}
 use Rattle.std.proofs.lemmas.List.Edits.{length-between, get_or-between}
-use Rattle.std.proofs.lemmas.List.{length-append, get_or_append_left, get_or-append_right}
+use Rattle.std.proofs.lemmas.List.{get_or_append_left, get_or-append_right}
 use Rattle.formats.specs.Layout.{count_of, end_at, spare_of}
 
 -- a byte with its low n bits 0
@@ -44,7 +46,7 @@ high : (xs ys : List ℕ) (n p : ℕ) → length xs ≡ n → n ≤ p → get_or
 high xs ys n p e h = get_or-append_right xs ys n p 0 e h
 
 sum : (xs ys : List ℕ) (n p q : ℕ) → length xs ≡ n → length ys ≡ p → n + p ≡ q → length (xs ++ ys) ≡ q
-sum xs ys n p q e f g = length-append xs ys ∙ (λ t. e t + f t) ∙ g
+sum xs ys n p q e f g = grind (arith, nat_tests, common_steps)
 
 at_between : (bs : List ℕ) (a e p r : ℕ) → a + p < e → r ≡ a + p → get_or (between a e bs) p 0 ≡ get_or bs r 0
 at_between bs a e p r h q = get_or-between bs a e p 0 h ∙ ap (λ n. get_or bs n 0) (sym q)

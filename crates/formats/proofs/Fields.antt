@@ -1,17 +1,18 @@
 -- The label that a row of bytes reads as, field by field.
 use Rattle.std.proofs.Common.{◌≡◌, ℕ, zero, suc, ◌+◌, ◌*◌, ◌/◌, ◌%◌, Bool, true, false, cond, eqb, List, [], ◌∷◌, map, refl, ap, ◌∙◌, arith}
+use Rattle.std.proofs.lemmas.Grind.{common_steps}
+use Rattle.std.proofs.lemmas.Bool.Decides.{nat_tests}
 use Rattle.std.specs.List.{range_with_len}
-use Rattle.std.proofs.lemmas.Bool.{eq-eqb, ne_eqb, cond-true, cond-false}
 use Rattle.formats.specs.Label.{Word, path, branch, Label, word_in, words_in, depths_in}
 use Rattle.formats.specs.Layout.{count_of, depth_at}
 use Rattle.formats.specs.Words.{word_at}
 use Rattle.formats.specs.Models.{field_by, field_at, label_of}
 
 pub field_even : (i : ℕ) (w : Word) (d : ℕ) → i % 2 ≡ 0 → field_by i w d ≡ path w d
-field_even i w d h = cond-true (eqb (i % 2) 0) (path w d) (branch w) (eq-eqb (i % 2) 0 h)
+field_even i w d h = grind (arith, nat_tests, common_steps)
 
 pub field_odd : (i : ℕ) (w : Word) (d : ℕ) → i % 2 ≡ 1 → field_by i w d ≡ branch w
-field_odd i w d h = cond-false (eqb (i % 2) 0) (path w d) (branch w) (ne_eqb (i % 2) 0 (λ e. omega arith))
+field_odd i w d h = grind (arith, nat_tests, common_steps)
 
 pub word_by : (i : ℕ) (w : Word) (d : ℕ) → word_in (field_by i w d) ≡ w
 word_by i w d = go (eqb (i % 2) 0)
@@ -26,12 +27,10 @@ module _ (bs : List ℕ) where
   tail_at i n = map (field_at bs) (range_with_len (2 * i) (suc (2 * n)))
 
   pub path_here : (i : ℕ) → field_at bs (2 * i) ≡ path (word_at bs (2 * i)) (depth_at bs i)
-  path_here i =
-      let z : 2 * i / 2 ≡ i = omega arith in
-      field_even (2 * i) (word_at bs (2 * i)) (depth_at bs (2 * i / 2)) (omega arith) ∙ ap (λ j. path (word_at bs (2 * i)) (depth_at bs j)) z
+  path_here i = grind (arith, nat_tests, common_steps)
 
   branch_here : (i : ℕ) → field_at bs (2 * i + 1) ≡ branch (word_at bs (2 * i + 1))
-  branch_here i = field_odd (2 * i + 1) (word_at bs (2 * i + 1)) (depth_at bs ((2 * i + 1) / 2)) (omega arith)
+  branch_here i = grind (arith, nat_tests, common_steps)
 
   pub tail_last : (i : ℕ) → tail_at i 0 ≡ path (word_at bs (2 * i)) (depth_at bs i) ∷ []
   tail_last i = ap (λ f. f ∷ []) (path_here i)

@@ -1,5 +1,7 @@
 -- What a readable row reads as can be written, and gives the row.
-use Rattle.std.proofs.Common.{◌≡◌, ℕ, zero, suc, ◌+◌, ◌-◌, ◌*◌, ◌/◌, ◌<◌, ◌≤◌, List, length, drop, Some, None, Ok, Err, Option, sym, refl, ap, ◌∙◌, subst, add-one, arith}
+use Rattle.std.proofs.Common.{◌≡◌, ℕ, zero, suc, ◌+◌, ◌-◌, ◌*◌, ◌/◌, ◌<◌, ◌≤◌, List, length, drop, Some, None, Ok, Err, Option, sym, ap, ◌∙◌, subst, add-one, arith}
+use Rattle.std.proofs.lemmas.Grind.{common_steps}
+use Rattle.std.proofs.lemmas.Bool.Decides.{nat_tests}
 use Rattle.std.proofs.lemmas.List.FromFn.{length-map-range_with_len}
 use Rattle.std.proofs.lemmas.Bool.{and_parts, leb-true}
 use Rattle.formats.specs.Limits.{most_depth}
@@ -56,12 +58,12 @@ fine_label bs small ok = record {
 }
 
 pub outcome_ok : {X E : Type 0} (o : Option E) (x y : X) → outcome o x ≡ Ok y → (o ≡ None) × (x ≡ y)
-outcome_ok None x y h = (refl, cc)
-outcome_ok (Some e) x y h = let z : ◌≡◌ {A = ℕ} 0 1 = cc in absurd (omega arith)
+outcome_ok None x y h = grind (arith, nat_tests, common_steps)
+outcome_ok (Some e) x y h = grind (arith, nat_tests, common_steps)
 
 pub outcome_err : {X E : Type 0} (o : Option E) (x : X) (e : E) → Err e ≡ outcome o x → o ≡ Some e
-outcome_err None x e h = let z : ◌≡◌ {A = ℕ} 0 1 = cc in absurd (omega arith)
-outcome_err (Some f) x e h = cc
+outcome_err None x e h = grind (arith, nat_tests, common_steps)
+outcome_err (Some f) x e h = grind (arith, nat_tests, common_steps)
 
 -- a row that is read is the bytes of what it reads as
 pub written_back : (bs : List ℕ) → Bytes bs → (number : ℕ) (l : Label) → read_tag bs ≡ Ok (number, l) → tag_bytes number l ≡ bs

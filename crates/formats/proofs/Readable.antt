@@ -1,8 +1,10 @@
 -- Bytes without a fault, in facts.
-use Rattle.std.proofs.Common.{◌≡◌, ℕ, ◌+◌, ◌/◌, ◌%◌, ◌<◌, ◌≤◌, Bool, true, false, cond, not, eqb, ltb, List, length, Some, None, Option, refl, ap, ◌∙◌, arith}
-use Rattle.std.proofs.lemmas.Bool.{or_from, or_parts, le-ltb, ltb-false, eqb-false, ne_eqb, eq-eqb, cond-false, eqb-true, not-false}
+use Rattle.std.proofs.Common.{◌≡◌, ℕ, ◌+◌, ◌/◌, ◌%◌, ◌<◌, ◌≤◌, Bool, true, false, cond, eqb, ltb, List, length, Some, None, Option, refl, arith}
+use Rattle.std.proofs.lemmas.Grind.{common_steps}
+use Rattle.std.proofs.lemmas.Bool.Decides.{nat_tests}
+use Rattle.std.proofs.lemmas.Bool.{or_parts, ltb-false, eqb-false, eqb-true, not-false}
 use Rattle.formats.specs.Limits.{most_fields}
-use Rattle.formats.specs.Layout.{tree_of, count_of, head_of, size_of, ends_fine, depths_fine, spare_at}
+use Rattle.formats.specs.Layout.{tree_of, count_of, size_of, ends_fine, depths_fine, spare_at}
 use Rattle.formats.specs.Faults.{tag_fault}
 
 -- what holds of bytes that are a tag
@@ -17,14 +19,7 @@ pub record Readable (bs : List ℕ) : Type 0 where
 
 pub no_fault : (bs : List ℕ) → Readable bs → tag_fault bs ≡ None
 unfolding tag_fault
-no_fault bs ok =
-    cond-false _ _ _ (or_from _ _ (le-ltb (length bs) 3 (omega (arith, ok.size))) (ne_eqb (tree_of bs) 0 (omega (arith, ok.number))))
-    ∙ cond-false _ _ _ (or_from _ _ (ne_eqb (count_of bs % 2) 0 (omega (arith, ok.odd))) (le-ltb 63 (count_of bs) ok.few))
-    ∙ cond-false _ _ _ (le-ltb (length bs) (head_of bs) (omega (arith, ok.size)))
-    ∙ cond-false _ _ _ (ap not ok.ends)
-    ∙ cond-false _ _ _ (ap not ok.depths)
-    ∙ cond-false _ _ _ (ap not (eq-eqb _ _ ok.size))
-    ∙ cond-false _ _ _ (ap not (eq-eqb _ _ ok.spare))
+no_fault bs ok = grind (arith, nat_tests, common_steps)
 
 pub none_from : {X : Type 0} (b : Bool) (x : X) (r : Option X) → cond b (Some x) r ≡ None → (b ≡ false) × (r ≡ None)
 none_from true x r h = let z : ◌≡◌ {A = ℕ} 0 1 = cc in absurd (omega arith)

@@ -1,5 +1,7 @@
 -- The bytes of what a readable row reads as are that row.
 use Rattle.std.proofs.Common.{◌≡◌, ℕ, zero, suc, ◌+◌, ◌-◌, ◌*◌, ◌/◌, ◌%◌, ◌^◌, ◌<◌, ◌≤◌, false, List, [], ◌∷◌, ◌++◌, map, length, get_or, take, drop, sym, refl, ap, ◌∙◌, ⊎_elim, add-one, arith, length-drop, take-append-drop, get_or-drop}
+use Rattle.std.proofs.lemmas.Grind.{common_steps}
+use Rattle.std.proofs.lemmas.Bool.Decides.{nat_tests}
 use Rattle.std.specs.List.{range_with_len, between, flat_map}
 use Rattle.std.proofs.lemmas.Nat.{shr_split, shl-shr, pow-add}
 use Rattle.std.proofs.lemmas.List.FromFn.{fill_by_all, length-map-range_with_len}
@@ -16,10 +18,7 @@ use Rattle.formats.proofs.Bits.{length_bits, get_d_bits, digit_bit}
 use Rattle.formats.proofs.Spans.{span, upward}
 
 two_pair : (a b : ℕ) → a < 256 → b < 256 → two (a + 256 * b) ≡ a ∷ b ∷ []
-two_pair a b h g =
-    let p : (a + 256 * b) % 256 ≡ a = omega arith in
-    let q : (a + 256 * b) / 256 ≡ b = omega arith in
-    λ t. p t ∷ q t ∷ []
+two_pair a b h g = grind (arith, nat_tests, common_steps)
 
 between_cons : (bs : List ℕ) (a e : ℕ) → a < e → e ≤ length bs → between a e bs ≡ get_or bs a 0 ∷ between (a + 1) e bs
 between_cons bs a e h g =

@@ -1,5 +1,7 @@
 -- Bounds of the fields of a readable row.
-use Rattle.std.proofs.Common.{◌≡◌, ℕ, zero, suc, ◌+◌, ◌-◌, ◌/◌, ◌<◌, ◌≤◌, List, refl, ap, subst, ⊎_elim, arith}
+use Rattle.std.proofs.Common.{◌≡◌, ℕ, zero, suc, ◌+◌, ◌-◌, ◌/◌, ◌<◌, ◌≤◌, List, subst, ⊎_elim, arith}
+use Rattle.std.proofs.lemmas.Grind.{common_steps}
+use Rattle.std.proofs.lemmas.Bool.Decides.{nat_tests}
 use Rattle.std.proofs.lemmas.Bool.{and_parts, ltb-true, leb-true, cases_eq}
 use Rattle.formats.specs.Limits.{most_field_bits, most_body_bits, most_depth}
 use Rattle.formats.specs.Layout.{begin_at, end_at, depth_at, count_of, end_fine, depth_fine, bits_of}
@@ -41,5 +43,5 @@ module _ (bs : List ℕ) (ok : Readable bs) where
 
 -- a field begins where the one before it ends
 pub begin_past : (bs : List ℕ) (i : ℕ) → (i ≡ 0 → ⊥) → end_at bs (i - 1) ≡ begin_at bs i
-begin_past bs zero h = absurd (h refl)
-begin_past bs (suc i) h = let z : suc i - 1 ≡ i = omega arith in ap (end_at bs) z
+begin_past bs zero h = grind (arith, nat_tests, common_steps)
+begin_past bs (suc i) h = grind (arith, nat_tests, common_steps)

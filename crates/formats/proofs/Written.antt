@@ -1,9 +1,11 @@
 -- What is written reads as what it was.
 use Rattle.std.proofs.Common.{◌≡◌, ℕ, zero, suc, ◌+◌, ◌-◌, ◌*◌, ◌/◌, ◌%◌, ◌^◌, ◌<◌, ◌≤◌, true, false, List, [], ◌∷◌, ◌++◌, length, get_or, take, drop, Ok, sym, refl, ap, ◌∙◌, append_assoc, arith, get_or-drop, drop_at}
+use Rattle.std.proofs.lemmas.Grind.{common_steps}
+use Rattle.std.proofs.lemmas.Bool.Decides.{nat_tests}
 use Rattle.std.specs.List.{flat_map}
 use Rattle.std.proofs.lemmas.List.FromFn.{fill_by_all, length-map-range_with_len, get_or-map-range_with_len}
-use Rattle.std.proofs.lemmas.List.{length-append, get_or-append_right, get_or_past}
-use Rattle.std.proofs.lemmas.Bool.{and_from, lt-ltb, le-leb}
+use Rattle.std.proofs.lemmas.List.{length-append, get_or_past}
+use Rattle.std.proofs.lemmas.Bool.{and_from, le-leb}
 use Rattle.formats.specs.Label.{Word, branch, Label, words_in, depths_in, body_in, Fine}
 use Rattle.formats.specs.Layout.{pair_at, tree_of, head_of, bits_of, begin_at, end_at, depth_at, least_at, end_step, depth_step, end_fine, depth_fine, spare_of, spare_at, bit_at}
 use Rattle.formats.proofs.Readable.{Readable}
@@ -20,7 +22,7 @@ tag_parts number l =
     two number ++ (length l ∷ flat_map two (ends_from 0 (words_in l)) ++ (flat_map two (depths_in l) ++ pack (body_in l)))
 
 end_step_ok : (b e : ℕ) → b < e → e ≤ b + 32 → e ≤ 1024 → end_step b e ≡ true
-end_step_ok b e p q r = and_from _ _ (lt-ltb b e p) (and_from _ _ (le-leb e (b + 32) q) (le-leb e 1024 r))
+end_step_ok b e p q r = grind (arith, nat_tests, common_steps)
 
 -- pairs of bytes
 pub length_two : (xs : List ℕ) → length (flat_map two xs) ≡ 2 * length xs
@@ -38,12 +40,7 @@ pair_joined (x ∷ xs) ys (suc i) h =
     ∙ pair_joined xs ys i (omega arith)
 
 pair_skip : (xs ys : List ℕ) (n o : ℕ) → length xs ≡ n → pair_at (xs ++ ys) (n + o) ≡ pair_at ys o
-pair_skip xs ys n o e =
-    let z : n + o - n ≡ o = omega arith in
-    let y : n + o + 1 - n ≡ o + 1 = omega arith in
-    let a = get_or-append_right xs ys n (n + o) 0 e (omega arith) ∙ ap (λ k. get_or ys k 0) z in
-    let b = get_or-append_right xs ys n (n + o + 1) 0 e (omega arith) ∙ ap (λ k. get_or ys k 0) y in
-    λ t. a t + 256 * b t
+pair_skip xs ys n o e = grind (arith, nat_tests, common_steps)
 
 -- the low s bits of a byte are 0 where its last s bits are
 spare_byte : (w : Word) (q s : ℕ) → s < 8 → ((r : ℕ) → 8 ≤ r + s → digit_at w (8 * q + r) ≡ 0) → byte_at w q % 2 ^ s ≡ 0

@@ -1,9 +1,9 @@
 -- Two words, compared bit by bit.
-use Rattle.std.proofs.Common.{◌≡◌, ℕ, ◌%◌, ◌<◌, ◌≤◌, min, max, Bool, true, false, not, ◌&&◌, ◌||◌, eqb, ltb, leb, length, get_or, Some, None, Option, MatchOption, sym, refl, ap, ◌∙◌, ⊎_elim, arith}
+use Rattle.std.proofs.Common.{◌≡◌, ℕ, ◌%◌, ◌<◌, ◌≤◌, min, max, Bool, true, false, not, ◌&&◌, ◌||◌, eqb, ltb, leb, length, get_or, Some, None, Option, MatchOption, sym, ◌∙◌, arith}
 use mathlib.Core.Bool.{beq}
 use Rattle.std.specs.Cmp.{booleans_Decides}
 use Rattle.std.specs.Option.{option_eq, unwrap_or}
-use Rattle.std.proofs.lemmas.Bool.{lt-ltb, le-ltb, and_left, and_right, cases_lt, cond-true, cond-false, not-false, not-true, false≢true}
+use Rattle.std.proofs.lemmas.Bool.{not-false, not-true, false≢true}
 use Rattle.std.proofs.lemmas.Bool.Decides.{nat_tests}
 use Rattle.formats.specs.Pairs.{lead, same_word, zero_first, begins}
 use Rattle.formats.proofs.Bits.{length_bits, lead_is}
@@ -15,7 +15,7 @@ pub length_word : (w : FieldWord) → length (bits_in w) ≡ w.len
 length_word w = length_bits w.bytes.now (w.first_bit % 8) w.len
 
 pub bit_some : (w : FieldWord) (t : ℕ) → t < w.len → bit_in w t ≡ Some (get_or (bits_in w) t false)
-bit_some w t l = cond-true _ _ _ (lt-ltb t w.len l)
+bit_some w t l = grind (arith, nat_tests)
 
 longer : (n p q : ℕ) → n ≤ p → n ≤ q → leb (max p q) n ≡ (eqb n p && eqb n q)
 longer n p q h g = grind (arith, nat_tests)
@@ -32,7 +32,7 @@ module _ (x y : FieldWord) where
   differ_both k l m = let p = bit_some x k l in let q = bit_some y k m in λ t. not (option_eq beq (p t) (q t))
 
   alike : (k : ℕ) → k < x.len → k < y.len → differ k ≡ false → get_or (bits_in x) k false ≡ get_or (bits_in y) k false
-  alike k l m e = (booleans_Decides _ _).0 (not-false _ (sym (differ_both k l m) ∙ e))
+  alike k l m e = grind (arith, differ_both, booleans_Decides, not-false)
 
   apart : (k : ℕ) → k < x.len → k < y.len → differ k ≡ true → get_or (bits_in x) k false ≡ get_or (bits_in y) k false → ⊥
   apart k l m e same = false≢true (sym (not-true _ (sym (differ_both k l m) ∙ e)) ∙ (booleans_Decides _ _).1 same)
@@ -79,24 +79,8 @@ module _ (x y : FieldWord) where
 
     -- the other word ends there
     pub zero_none : y.len ≤ n → false ≡ zero_first (bits_in x) (bits_in y)
-    zero_none e =
-        sym (zero_by ∙ and_right (ltb n x.len) (ltb n y.len && not (get_or (bits_in x) n false)) (and_left (ltb n y.len) (not (get_or (bits_in x) n false)) (le-ltb n y.len e)))
+    zero_none e = grind (arith, nat_tests, zero_by)
 
     -- the other word goes on
     pub zero_some : n < y.len → option_eq beq (bit_in x n) (Some false) ≡ zero_first (bits_in x) (bits_in y)
-    zero_some l = ⊎_elim more none (cases_lt n x.len) ∙ sym zero_by
-      where
-        more : n < x.len → option_eq beq (bit_in x n) (Some false) ≡ (ltb n x.len && (ltb n y.len && not (get_or (bits_in x) n false)))
-        more m =
-            let p = sym (lt-ltb n x.len m) in
-            let q = sym (lt-ltb n y.len l) in
-            ap (λ o. option_eq beq o (Some false)) (bit_some x n m) ∙ is_false (get_or (bits_in x) n false) ∙ (λ t. p t && (q t && not (get_or (bits_in x) n false)))
-          where
-            is_false : (b : Bool) → beq b false ≡ not b
-            is_false true = refl
-            is_false false = refl
-
-        none : x.len ≤ n → option_eq beq (bit_in x n) (Some false) ≡ (ltb n x.len && (ltb n y.len && not (get_or (bits_in x) n false)))
-        none m =
-            ap (λ o. option_eq beq o (Some false)) (cond-false _ _ _ (le-ltb n x.len m))
-            ∙ sym (and_left (ltb n x.len) (ltb n y.len && not (get_or (bits_in x) n false)) (le-ltb n x.len m))
+    zero_some l = grind (arith, nat_tests, zero_by, bit_some x n)

@@ -1,9 +1,10 @@
 -- What a field shows of a tag is the field of its label.
-use Rattle.std.proofs.Common.{◌≡◌, ℕ, ◌+◌, ◌-◌, ◌/◌, ◌%◌, ◌<◌, Bool, true, false, cond, eqb, List, length, Some, None, ap, ◌∙◌, arith}
-use Rattle.std.proofs.lemmas.Bool.{and_from, lt-ltb, le-leb, cond-true}
+use Rattle.std.proofs.Common.{◌≡◌, ℕ, ◌-◌, ◌/◌, ◌%◌, ◌<◌, Bool, true, false, cond, eqb, List, Some, None, ap, ◌∙◌, arith}
+use Rattle.std.proofs.lemmas.Bool.Decides.{nat_tests}
+use Rattle.std.proofs.lemmas.Bool.{cond-true}
 use Rattle.formats.specs.Label.{path, branch, Field as Said}
 use Rattle.formats.specs.Faults.{tag_fault}
-use Rattle.formats.specs.Layout.{count_of, head_of, begin_at, end_at, depth_at}
+use Rattle.formats.specs.Layout.{count_of, begin_at, end_at, depth_at}
 use Rattle.formats.specs.Models.{field_at}
 use Rattle.formats.specs.Words.{bits_at, word_at}
 use Rattle.formats.proofs.Readable.{is_readable}
@@ -25,10 +26,7 @@ module _ (bs : List ℕ) (f : tag_fault bs ≡ None) (i : ℕ) where
       go false = ap branch (word_touched bs i (span bs (is_readable bs f) i l))
 
   has_all : i < count_of bs → has_field bs i ≡ true
-  has_all l =
-      let s = span bs (is_readable bs f) i l in
-      and_from _ _ (lt-ltb i (count_of bs) l)
-      (and_from _ _ (le-leb (begin_at bs i) (end_at bs i) (omega (arith, s.some))) (le-leb (head_of bs + (end_at bs i + 7) / 8) (length bs) (omega (arith, s.inside, (is_readable bs f).size))))
+  has_all l = let s = span bs (is_readable bs f) i l in let r = (is_readable bs f).size in grind (arith, nat_tests)
 
   pub shown_all : i < count_of bs → field_answer bs i ≡ Some (view_at bs i)
   shown_all l = cond-true _ _ _ (has_all l)

@@ -34,23 +34,26 @@ fn refusal(first: &[u8], second: &[u8]) -> u8 {
     }
 }
 
-fn put_two(out: &mut [u8], at: usize, v: usize) {
-    if at < 1000 && at + 1 < out.len() {
-        out[at] = (v % 256) as u8;
-        out[at + 1] = (v / 256 % 256) as u8;
+fn put_two(out: &mut [u8], at: usize, v: u16) {
+    if at < 1000 && at + 2 <= out.len() {
+        out[at..at + 2].copy_from_slice(&v.to_le_bytes());
     }
 }
 
 // A tag of `k` fields of `step` bits, the last of them up to `last`.
 fn long_tag(out: &mut [u8], k: u8, step: u8, last: u16) {
     put_two(out, 0, 7);
-    put_two(out, 2, k as usize);
+    put_two(out, 2, u16::from(k));
     for i in 0..k {
-        put_two(out, 3 + 2 * i as usize, (i as usize + 1) * step as usize);
+        put_two(
+            out,
+            3 + 2 * i as usize,
+            (u16::from(i) + 1) * u16::from(step),
+        );
     }
-    put_two(out, 1 + 2 * k as usize, last as usize);
+    put_two(out, 1 + 2 * k as usize, last);
     for j in 0..k / 2 + 1 {
-        put_two(out, 3 + 2 * k as usize + 2 * j as usize, j as usize);
+        put_two(out, 3 + 2 * k as usize + 2 * j as usize, u16::from(j));
     }
 }
 
