@@ -1,12 +1,11 @@
 -- What an answered word says, by any code.
-use Rattle.std.proofs.Common.{◌≡◌, ℕ, ◌<◌, Bool, true, false, cond, List, IfOk, Ok, Err, Result, sym, refl, ap, ◌∙◌, ap₂, subst₂}
-use Rattle.std.proofs.lemmas.Bool.{and_from}
+use Rattle.std.proofs.Common.{◌≡◌, ℕ, ◌<◌, Bool, true, false, cond, List, IfOk, Ok, Err, Result, sym, refl, ◌∙◌, ap₂, subst₂}
 use Rattle.codes.specs.declared.word.Word.{Word}
 use Rattle.codes.specs.declared.code.CodeRefusal.{CodeRefusal}
 use Rattle.codes.specs.declared.code.CodeRefusal.TheVariants.{NotAccepted}
 use Rattle.codes.specs.Words.{bits, Before, Fit}
 use Rattle.codes.specs.Weighing.{accepts}
-use Rattle.codes.specs.Coding.{answer, pair_answer, Lawful}
+use Rattle.codes.specs.Coding.{answer, Lawful}
 use Rattle.codes.proofs.Accepting.{accepts_weights, accepts_index}
 
 -- the item is accepted, and the word is its own
@@ -20,12 +19,9 @@ answer_ok f ws i x e = go (accepts ws i) refl e
     go true h k = (h, cc)
     go false h k = (cc, cc)
 
--- what is answered where an item is accepted, and where it is not
+-- what is answered where an item is accepted
 pub answer_yes : (f : List ℕ → ℕ → Word) (ws : List ℕ) (i : ℕ) (x : Word) → true ≡ accepts ws i → x ≡ f ws i → Ok x ≡ answer f ws i
 answer_yes f ws i x h e = ap₂ (λ (t : Bool) (y : Word). cond t (Ok y) (Err NotAccepted)) h e
-
-pub answer_no : (f : List ℕ → ℕ → Word) (ws : List ℕ) (i : ℕ) → false ≡ accepts ws i → Err NotAccepted ≡ answer f ws i
-answer_no f ws i h = ap (λ (t : Bool). cond t (Ok (f ws i)) (Err NotAccepted)) h
 
 -- the same answer, where list and index go by other names
 pub answer_moved : (f : List ℕ → ℕ → Word) (r : Result Word CodeRefusal) {vs ws : List ℕ} {i j : ℕ} → r ≡ answer f vs i → vs ≡ ws → i ≡ j → r ≡ answer f ws j
@@ -43,11 +39,6 @@ answer_fit f law ws i = go (accepts ws i) refl
     go false h = tt
 
 -- two answered words
-pub pair_ok : (f : List ℕ → ℕ → Word) (ws : List ℕ) (i j : ℕ) (x y : Word) → Own f ws i x → Own f ws j y → Ok (x, y) ≡ pair_answer f ws i j
-pair_ok f ws i j x y h k =
-    ap₂ (λ (u v : Word). Ok (u, v)) h.1 k.1
-    ∙ sym (ap (λ (t : Bool). cond t (Ok (f ws i, f ws j)) (Err NotAccepted)) (and_from (accepts ws i) (accepts ws j) h.0 k.0))
-
 pub pair_before : (f : List ℕ → ℕ → Word) → Lawful f → (ws : List ℕ) (i j : ℕ) (x y : Word) → Own f ws i x → Own f ws j y → i < j → Before (bits x) (bits y)
 pair_before f law ws i j x y h k l =
     subst₂ (λ (u v : Word). Before (bits u) (bits v)) (sym h.1) (sym k.1)

@@ -1,8 +1,10 @@
 -- How the bits inside a range of items go on inside its two halves.
-use Rattle.std.proofs.Common.{◌≡◌, ℕ, zero, suc, ◌+◌, ◌-◌, ◌*◌, ◌<◌, ◌≤◌, Bool, true, false, ◌⊎◌, List, ◌∷◌, length, sym, refl, ap, ◌∙◌, inl, inr, arith}
+use Rattle.std.proofs.Common.{◌≡◌, ℕ, zero, suc, ◌+◌, ◌-◌, ◌^◌, ◌<◌, ◌≤◌, Bool, true, false, ◌⊎◌, List, ◌∷◌, length, sym, refl, ap, ◌∙◌, inl, inr, arith}
+use Rattle.std.specs.Int.{div_ceil}
 use Rattle.std.proofs.lemmas.Bool.{cases_lt}
-use Rattle.codes.specs.Halves.{half_up, path, word_of}
-use Rattle.codes.specs.Splits.{path_one, path_left, path_right}
+use Rattle.codes.specs.Halves.{half_up, path, with_bit, word_of}
+use Rattle.codes.specs.Splits.{path_one, path_left, path_right, push_small}
+use Rattle.codes.specs.declared.word.Word.{Word}
 use Rattle.codes.specs.Laws.{split_bits}
 use Rattle.codes.specs.Theorems.{Halving}
 
@@ -20,29 +22,39 @@ path_enough (suc f) (suc g) n i h k = go (cases_lt 1 n) (cases_lt i (half_up n))
     go (inl two) (inr a) left right = path_right f n i two a ∙ ap (λ (u : List Bool). true ∷ u) (right (omega arith) (omega arith)) ∙ sym (path_right g n i two a)
     go (inr one) s left right = path_one (suc f) n i one ∙ sym (path_one (suc g) n i one)
 
-pub step_left : (n i : ℕ) → 1 < n → i < half_up n → path n n i ≡ false ∷ path (half_up n) (half_up n) i
-step_left zero i two a = absurd (omega arith)
-step_left (suc m) i two a = path_left m (suc m) i two a ∙ ap (λ (u : List Bool). false ∷ u) (path_enough m (half_up (suc m)) (half_up (suc m)) i (omega arith) (omega arith))
+pub step_left : (n h i : ℕ) → h ≡ half_up n → 1 < n → i < h → path n n i ≡ false ∷ path h h i
+step_left zero h i e two a = absurd (omega arith)
+step_left (suc m) h i e two a =
+    path_left m (suc m) i two (rw (← e) a) ∙ ap (λ (u : List Bool). false ∷ u) (rw (← e) (path_enough m h h i (omega arith) (omega arith)))
 
-pub step_right : (n i : ℕ) → 1 < n → half_up n ≤ i → path n n i ≡ true ∷ path (n - half_up n) (n - half_up n) (i - half_up n)
-step_right zero i two a = absurd (omega arith)
-step_right (suc m) i two a = path_right m (suc m) i two a ∙ ap (λ (u : List Bool). true ∷ u) (path_enough m (suc m - half_up (suc m)) (suc m - half_up (suc m)) (i - half_up (suc m)) (omega arith) (omega arith))
+pub step_right : (n h i : ℕ) → h ≡ half_up n → 1 < n → h ≤ i → path n n i ≡ true ∷ path (n - h) (n - h) (i - h)
+step_right zero h i e two a = absurd (omega arith)
+step_right (suc m) h i e two a =
+    path_right m (suc m) i two (rw (← e) a)
+    ∙ ap (λ (u : List Bool). true ∷ u) (rw (← e) (path_enough m (suc m - h) (suc m - h) (i - h) (omega arith) (omega arith)))
 
-pub word_left : (v l n i : ℕ) → 1 < n → i < half_up n → word_of (v * 2) (l + 1) (path (half_up n) (half_up n) i) ≡ word_of v l (path n n i)
-word_left v l n i two a =
-    let e : v * 2 ≡ 2 * v + 0 = omega arith in
-    ap (λ (x : ℕ). word_of x (l + 1) (path (half_up n) (half_up n) i)) e ∙ sym (ap (word_of v l) (step_left n i two a))
+-- a word that goes on with a bit
+pub record GoesOn (w v : Word) (bs cs : List Bool) : Type 0 where
+  pub small : v.value < 2 ^ v.len
+  pub long : v.len + length cs ≡ w.len + length bs
+  pub same : word_of v.value v.len cs ≡ word_of w.value w.len bs
 
-pub word_right : (v l n i : ℕ) → 1 < n → half_up n ≤ i → word_of (v * 2 + 1) (l + 1) (path (n - half_up n) (n - half_up n) (i - half_up n)) ≡ word_of v l (path n n i)
-word_right v l n i two a =
-    let e : v * 2 + 1 ≡ 2 * v + 1 = omega arith in
-    ap (λ (x : ℕ). word_of x (l + 1) (path (n - half_up n) (n - half_up n) (i - half_up n))) e ∙ sym (ap (word_of v l) (step_right n i two a))
+goes_on : (w v : Word) (b : Bool) (bs cs : List Bool) → w.value < 2 ^ w.len → v ≡ with_bit w b → bs ≡ b ∷ cs → GoesOn w v bs cs
+goes_on w v b bs cs h e f =
+    rw (e, f) (record { small = push_small w.value w.len b h; long = omega arith; same = refl })
+
+-- into the left half, and into the right one
+pub goes_left : (w v : Word) (n h i : ℕ) → v ≡ with_bit w false → h ≡ div_ceil n 2 → 1 < n → i < h → w.value < 2 ^ w.len → GoesOn w v (path n n i) (path h h i)
+goes_left w v n h i e f two a l = goes_on w v false _ _ l e (step_left n h i (omega arith) two a)
+
+pub goes_right : (w v : Word) (n h i : ℕ) → v ≡ with_bit w true → h ≡ div_ceil n 2 → 1 < n → h ≤ i → w.value < 2 ^ w.len → GoesOn w v (path n n i) (path (n - h) (n - h) (i - h))
+goes_right w v n h i e f two a l = goes_on w v true _ _ l e (step_right n h i (omega arith) two a)
 
 pub halving : Halving
 halving = record {
   alone = λ w. refl;
   longer = λ ws i two. split_bits (length ws) i two;
   ends = refl;
-  left = step_left;
-  right = step_right;
+  left = λ n i. step_left n (half_up n) i refl;
+  right = λ n i. step_right n (half_up n) i refl;
 }

@@ -1,14 +1,15 @@
--- The shift of the code of Gilbert and Moore, balance, and the loop that finds the shift.
-use Rattle.std.proofs.Common.{◌≡◌, ℕ, zero, suc, ◌+◌, ◌*◌, ◌/◌, ◌^◌, ◌<◌, ◌≤◌, Bool, true, false, cond, leb, ◌⊎◌, [], ◌∷◌, get_or, sum, sym, refl, ap, ◌∙◌, inl, inr, mul-le-mul_right, mul-le-mul_left, arith, pow_pos, pow_mono, pow-add, leb-false}
+-- The shift of the code of Gilbert and Moore, balance, and the power of two that is found for the shift.
+use Rattle.std.proofs.Common.{◌≡◌, ℕ, zero, suc, ◌+◌, ◌*◌, ◌/◌, ◌^◌, ◌<◌, ◌≤◌, Bool, true, false, cond, leb, max, ◌⊎◌, [], ◌∷◌, get_or, sum, sym, refl, ap, ap₂, ◌∙◌, inl, inr, mul-le-mul_left, arith, pow_pos, pow_mono, pow-add, leb-false}
 use native.Mathlib.Nat.{div_self}
+use Rattle.std.specs.Int.{div_ceil, IsPowerOfTwo}
+use Rattle.std.proofs.lemmas.Grind.{div_ceil_times}
 use Rattle.std.proofs.lemmas.List.Sums.{sum_by-cons}
 use Rattle.std.proofs.lemmas.Bool.{cases_lt, cases_order}
 use Rattle.codes.specs.Coding.{Balanced}
-use Rattle.codes.specs.Weighing.{most_weight}
 use Rattle.codes.specs.Gilbert.{doublings, shift, cut_word, mid_word, gilbert_moore}
 use Rattle.codes.specs.Theorems.{SmallestShift}
 use Rattle.codes.specs.Sums.{sum_upto, weight_some}
-use Rattle.codes.specs.Midpoints.{twice_pow, shift_reaches, shift_stays, short}
+use Rattle.codes.specs.Midpoints.{twice_pow, shift_reaches, shift_stays}
 
 -- one shift only takes w to between W and 2 * W
 unlike : (w W a b : ℕ) → W ≤ w * 2 ^ a → w * 2 ^ b < 2 * W → a < b → ⊥
@@ -46,27 +47,46 @@ gilbert_balanced ws i h l =
     let e : 2 ^ (shift w (sum ws) + 1) ≡ 2 ^ shift w (sum ws) * 2 = pow-add 2 (shift w (sum ws)) 1 in
     rw e (omega (arith, shift_stays w (sum ws) (omega arith)))
 
--- ---- a word from its parts, and the word of a lone item
-
-pub mid_same : {W V S R w v : ℕ} → W ≡ V → S ≡ R → w ≡ v → mid_word W S w ≡ mid_word V R v
-mid_same p q r = cc
+-- ---- the word of a lone item
 
 pub gilbert_alone : (w : ℕ) → 1 ≤ w → gilbert_moore (w ∷ []) 0 ≡ record { value = 1; len = 1 }
 gilbert_alone w h =
     let e : sum (w ∷ []) ≡ w = omega (arith, sum_by-cons (λ (x : ℕ). x) w []) in
     let s : 0 ≡ shift w w = shift_is w w 0 h (omega arith) (omega arith) (omega arith) in
     let m : (2 * 0 + w) * 2 ^ 0 ≡ w = omega arith in
-    mid_same {S = 0} {w = w} e refl refl
+    ap (λ (W : ℕ). mid_word W 0 w) e
     ∙ ap (cut_word (2 * 0 + w) w) (sym s)
     ∙ ap (λ (v : ℕ). record { value = v; len = 1 }) (ap (λ (v : ℕ). v / w) m ∙ div_self h)
 
--- ---- the loop
+-- ---- the power of two that is the shift
 
--- while w * 2 ^ d is below the sum there is room for one more doubling
-pub shift_room : (w W d : ℕ) → 1 ≤ w → W ≤ most_weight → w * 2 ^ d < W → d ≤ 14
-shift_room w W d p q h =
-    let k : suc d ≤ 15 = short w W (suc d) p q (omega (arith, twice_pow w d)) in
-    omega arith
+-- 2 ^ k is the smallest power of two that takes the weight to the sum
+power_reaches : (w W k : ℕ) → 1 ≤ w → div_ceil W w ≤ 2 ^ k → W ≤ w * 2 ^ k
+power_reaches w W k h l = omega (arith, div_ceil_times W w h, mul-le-mul_left w l)
 
-pub value_fits : (m d : ℕ) → m < 65536 → d ≤ 14 → m * 2 ^ d < 2 ^ 30
-value_fits m d h k = omega (arith, mul-le-mul_right (2 ^ d) h, pow_mono {i = d} {j = 14} k, pow_pos d)
+power_stays : (w W k : ℕ) → 1 ≤ w → w ≤ W → 2 ^ k / 2 < max 1 (div_ceil W w) → w * 2 ^ k < 2 * W
+power_stays w W zero h m l = omega arith
+power_stays w W (suc j) h m l =
+    let e : 2 ^ suc j / 2 ≡ 2 ^ j = omega (arith, pow-add 2 j 1) in
+    let k : suc (2 ^ j) ≤ div_ceil W w = omega (arith, pow_pos j) in
+    omega (arith, div_ceil_times W w h, mul-le-mul_left w k, twice_pow w j)
+
+pub power_shift : (w W k : ℕ) → 1 ≤ w → w ≤ W → div_ceil W w ≤ 2 ^ k → 2 ^ k / 2 < max 1 (div_ceil W w) → k ≡ shift w W
+power_shift w W k h m a b = shift_is w W k h (omega arith) (power_reaches w W k h a) (power_stays w W k h m b)
+
+-- a logarithm is the exponent
+pub same_log : (j k : ℕ) → 2 ^ j ≤ 2 ^ k → 2 ^ k < 2 * 2 ^ j → j ≡ k
+same_log j k h l = go (cases_order j k)
+  where
+    go : (j ≡ k) ⊎ ((j < k) ⊎ (k < j)) → j ≡ k
+    go (inl e) = e
+    go (inr (inl a)) = absurd (omega (arith, pow-add 2 j 1, pow_mono {i = suc j} {j = k} a))
+    go (inr (inr a)) = absurd (omega (arith, pow-add 2 k 1, pow_mono {i = suc k} {j = j} a, pow_pos k))
+
+-- the word that is made with a power p of two, whose logarithm is j
+pub scaled_word : (w W m j p r : ℕ) → 1 ≤ w → w ≤ W → r ≡ div_ceil W w → IsPowerOfTwo p → r ≤ p → p / 2 < max 1 r → 2 ^ j ≤ p → p < 2 * 2 ^ j
+    → record { value = m * p / W; len = j + 1 } ≡ cut_word m W (shift w W)
+scaled_word w W m j p r h l e (k, q) a b c d =
+    let s : k ≡ shift w W = power_shift w W k h l (rw (← q, ← e) a) (rw (← q, ← e) b) in
+    let t : j ≡ k = same_log j k (rw (← q) c) (rw (← q) d) in
+    ap₂ (λ (x i : ℕ). record { value = m * x / W; len = i + 1 }) q t ∙ ap (cut_word m W) s

@@ -15,6 +15,10 @@ path (suc f) n i = cond (nat_le n 1) [] (cond (nat_lt i (half_up n)) (false ∷ 
 abbrev pub bit : Bool → ℕ
 bit b = cond b 1 0
 
+-- a word with one bit more at its end
+abbrev pub with_bit : Word → Bool → Word
+with_bit w b = record { value = 2 * w.value + bit b; len = w.len + 1 }
+
 -- the word that goes on, after the l bits of v, with the bits of a list
 abbrev pub word_of : ℕ → ℕ → List Bool → Word
 word_of v l [] = record { value = v; len = l }

@@ -26,5 +26,5 @@ encode_answer ws a b c =
     (Err NotAccepted)
 
 -- the same three rows, whatever they hold
-abbrev pub Same : WordRows → WordRows → Type 0
-Same a b = (b.high.ghost_name ≡ a.high.ghost_name) × (b.low.ghost_name ≡ a.low.ghost_name) × (b.len.ghost_name ≡ a.len.ghost_name)
+abbrev pub SameRows : WordRows → WordRows → Type 0
+SameRows a b = (b.high.ghost_name ≡ a.high.ghost_name) × (b.low.ghost_name ≡ a.low.ghost_name) × (b.len.ghost_name ≡ a.len.ghost_name)

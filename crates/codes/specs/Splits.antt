@@ -87,7 +87,7 @@ pub word_len : (v l : ℕ) (bs : List Bool) → (word_of v l bs).len ≡ l + len
 word_len v l [] = omega arith
 word_len v l (b ∷ bs) = omega (arith, word_len (2 * v + bit b) (l + 1) bs)
 
-push_small : (v l : ℕ) (b : Bool) → v < 2 ^ l → 2 * v + bit b < 2 ^ (l + 1)
+pub push_small : (v l : ℕ) (b : Bool) → v < 2 ^ l → 2 * v + bit b < 2 ^ (l + 1)
 push_small v l true h = omega (arith, pow-add 2 l 1)
 push_small v l false h = omega (arith, pow-add 2 l 1)
 

@@ -1,5 +1,6 @@
 -- The lists of weights that codes take, and the sums of such a list.
-use Rattle.std.specs.Prelude.{◌≡◌, ℕ, ◌+◌, ◌≤◌, Bool, true, false, cond, ◌&&◌, List, [], ◌∷◌, length, take, sum, nat_le, nat_lt}
+use Rattle.std.specs.Prelude.{◌≡◌, ℕ, ◌+◌, ◌≤◌, Bool, true, false, cond, ◌&&◌, List, [], ◌∷◌, length, take, sum, nat_le, nat_lt, Option, Some, None}
+use Rattle.codes.specs.declared.item.Sums.{Sums}
 use Rattle.std.specs.List.{AllByRecursion}
 
 -- the largest sum
@@ -20,6 +21,10 @@ positive (w ∷ ws) = nat_le 1 w && positive ws
 abbrev pub fine_list : List ℕ → Bool
 fine_list ws = positive ws && nat_le (sum ws) most_weight
 
+-- a sum with a list of weights added; none where a weight is 0, or the sum is then larger than most_weight
+abbrev pub added_to : ℕ → List ℕ → Option ℕ
+added_to s ws = cond (positive ws && nat_le (s + sum ws) most_weight) (Some (s + sum ws)) None
+
 -- the test of a list and an index
 abbrev pub accepts : List ℕ → ℕ → Bool
 accepts ws i = fine_list ws && nat_lt i (length ws)
@@ -35,6 +40,10 @@ sum_before ws i = cond (fine_list ws) (sum (take i ws)) 0
 
 abbrev pub sum_of_all : List ℕ → ℕ
 sum_of_all ws = cond (fine_list ws) (sum ws) 0
+
+-- both sums at an index; none where the list is not fine
+abbrev pub sums_at : List ℕ → ℕ → Option Sums
+sums_at ws i = cond (fine_list ws) (Some (record { before = sum (take i ws); total = sum ws })) None
 
 -- the index after one; past the end it stays
 abbrev pub next_index : List ℕ → ℕ → ℕ

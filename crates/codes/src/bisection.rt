@@ -10,32 +10,37 @@ use crate::code::{Code, CodeRefusal};
 use crate::item::Item;
 use crate::word::Word;
 
-// The word that goes on, after the `len` bits of `value`, with the bits of item `i` of a range of `n` items: at most 15 bits in all,
-// since 15 halvings leave one item of a longest list.
-fn descend(value: u32, len: u8, n: usize, i: usize) -> Word
-    requires { (i < n) × ((n ≤ most_weight) × ((value < 2 ^ len) × (len + length (path n n i) ≤ 15))) }
-    ensures { result ≡ word_of value len (path n n i) }
+// The word that goes on, after the bits of `word`, with those of item `i` of a range of `n` items: at most 15 bits in all, since
+// 15 halvings leave one item of a longest list.
+fn descend(word: Word, n: usize, i: usize) -> Word
+    requires inside { i < n }
+    requires few { n ≤ most_weight }
+    requires small { word.value < 2 ^ word.len }
+    requires room { word.len + length (path n n i) ≤ 15 }
+    ensures { result ≡ word_of word.value word.len (path n n i) }
 {
     if n <= 1 {
-        return Word { value, len };
+        return word;
     }
-    let half = (n + 1) / 2;
+    let half = n.div_ceil(2);
     if i < half {
-        descend(value * 2, len + 1, half, i)
+        descend(word.with_bit(false), half, i)
     } else {
-        descend(value * 2 + 1, len + 1, n - half, i - half)
+        descend(word.with_bit(true), n - half, i - half)
     }
 }
 
 // The word of item `index` of `count`; a lone item has the word 0.
+#[tactic(auto, using(crate::specs::Splits::path_short))]
 fn split(count: usize, index: usize) -> Word
-    requires { (index < count) × (count ≤ most_weight) }
+    requires inside { index < count }
+    requires few { count ≤ most_weight }
     ensures { result ≡ split_word count index }
 {
     if count == 1 {
         Word { value: 0, len: 1 }
     } else {
-        descend(0, 0, count, index)
+        descend(Word { value: 0, len: 0 }, count, index)
     }
 }
 
@@ -47,6 +52,7 @@ impl Code for Bisection {
 
     ghost laws = { λ _. bisection_lawful };
 
+    #[tactic(auto, using(crate::proofs::Descents::halving, crate::specs::Sums::count_le_sum))]
     fn word(&self, item: &Item) -> Result<Word, CodeRefusal>
         ensures told { result ≡ answer bisection item.now.weights.now item.now.index }
         ensures halves { Halving }

@@ -12,20 +12,16 @@ use crate::word::Word;
 
 // The word of an item from the sum of the weights before it, its own weight and the sum of all.
 fn middle(before: u32, weight: u32, total: u32) -> Word
-    requires { (1 ≤ weight) × ((before + weight ≤ total) × (total ≤ most_weight)) }
+    requires some { 1 ≤ weight }
+    requires within { before + weight ≤ total }
+    requires bounded { total ≤ most_weight }
     ensures { result ≡ mid_word total before weight }
 {
-    let mut value = 2 * before + weight;
-    let mut scaled = weight;
-    let mut shift: u8 = 0;
-    while scaled < total {
-        value *= 2;
-        scaled *= 2;
-        shift += 1;
-    }
+    // The smallest power of two that takes the weight to the whole sum.
+    let scale = total.div_ceil(weight).next_power_of_two();
     Word {
-        value: value / total,
-        len: shift + 1,
+        value: (2 * before + weight) * scale / total,
+        len: scale.ilog2() as u8 + 1,
     }
 }
 
@@ -37,6 +33,7 @@ impl Code for GilbertMoore {
 
     ghost laws = { λ _. gilbert_lawful };
 
+    #[tactic(auto, using(crate::proofs::Shifts::gilbert_balanced, crate::specs::Laws::gilbert_short))]
     fn word(&self, item: &Item) -> Result<Word, CodeRefusal>
         ensures told { result ≡ answer gilbert_moore item.now.weights.now item.now.index }
         ensures smallest { SmallestShift }

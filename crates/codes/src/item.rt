@@ -1,32 +1,57 @@
 // An item of a list of weights.
-ghost use Rattle.std.specs.Prelude.{◌≡◌, ◌-◌, ◌<◌, length, if◌then◌else◌, slice_index};
-ghost use Rattle.codes.specs.Weighing.{Weights, fine_list, accepts, sum_before, sum_of_all, next_index, Exactly};
+ghost use Rattle.std.specs.Prelude.{◌≡◌, ◌-◌, ◌<◌, ◌≤◌, length, slice_index};
+ghost use Rattle.codes.specs.Weighing.{most_weight, Weights, accepts, sum_before, sum_of_all, added_to, sums_at, next_index, Exactly};
 
 // The largest sum of a list that codes take.
 const MOST_WEIGHT: u32 = 32767;
 
-// An item of a list, with the sum of the weights before it and the sum of all. Any list and any index will do: `fine` says
-// whether codes take the list, and both sums are 0 where they don't.
+// The sum of the weights before an item, and the sum of all.
+#[derive(Clone, Copy)]
+struct Sums {
+    before: u32,
+    total: u32,
+}
+
+// An item of a list, with its sums. Any list and any index will do: where codes don't take the list there are no sums.
 #[derive(Clone, Copy)]
 pub struct Item<'a> {
     weights: &'a [u16],
     index: usize,
-    before: u32,
-    total: u32,
-    fine: bool,
-    ghost judged: { fine ≡ fine_list weights.now },
-    ghost start: { before ≡ sum_before weights.now index },
-    ghost all: { total ≡ sum_of_all weights.now },
+    sums: Option<Sums>,
+    ghost known: { sums ≡ sums_at weights.now index },
 }
 
 // A weight; 0 past the end.
 fn weight_at(weights: &[u16], index: usize) -> u32
     ensures { result ≡ slice_index weights.now index }
 {
-    if index < weights.len() {
-        weights[index] as u32
-    } else {
-        0
+    weights.get(index).map_or(0, |weight| u32::from(*weight))
+}
+
+// A sum with the weights of a list added; none where a weight is 0, or the sum is larger than codes take.
+fn added(mut sum: u32, weights: &[u16]) -> Option<u32>
+    requires { sum ≤ most_weight }
+    ensures { result ≡ added_to sum weights.now }
+{
+    for weight in weights {
+        sum += u32::from(*weight);
+        if *weight == 0 || sum > MOST_WEIGHT {
+            return None;
+        }
+    }
+    Some(sum)
+}
+
+impl Sums {
+    // The sums at an index, in one pass over the list; none where codes don't take it.
+    #[tactic(auto, using(std::proofs::lemmas::Grind::common_steps, std::proofs::lemmas::List::take_min, crate::proofs::Accepting::positive_append))]
+    fn at(weights: &[u16], index: usize) -> Option<Sums>
+        ensures { result ≡ sums_at weights.now index }
+    {
+        let (front, back) = weights.split_at(index.min(weights.len()));
+        let before = added(0, front)?;
+        let total = added(before, back)?;
+        Some(Sums { before, total })
     }
 }
 
@@ -36,41 +61,10 @@ impl<'a> Item<'a> {
         ensures list { result.weights.now ≡ weights.now }
         ensures place { result.index ≡ index }
     {
-        let mut before: u32 = 0;
-        let mut total: u32 = 0;
-        for (k, w) in weights.iter().enumerate() {
-            let weight = *w as u32;
-            if weight == 0 || total + weight > MOST_WEIGHT {
-                return Item {
-                    weights,
-                    index,
-                    before: 0,
-                    total: 0,
-                    fine: false,
-                };
-            }
-            total += weight;
-            if k < index {
-                before = total;
-            }
-        }
         Item {
             weights,
             index,
-            before,
-            total,
-            fine: true,
-        }
-    }
-
-    // What the weight at an index adds to the sums: 0 past the end, and where codes don't take the list.
-    fn share(&self, index: usize) -> u32
-        ensures { result ≡ (if fine_list self.now.weights.now then slice_index self.now.weights.now index else 0) }
-    {
-        if self.fine {
-            weight_at(self.weights, index)
-        } else {
-            0
+            sums: Sums::at(weights, index),
         }
     }
 
@@ -82,13 +76,14 @@ impl<'a> Item<'a> {
         if self.index >= self.weights.len() {
             return self;
         }
-        let before = self.before + self.share(self.index);
+        let weight = self.weight();
         Item {
             weights: self.weights,
             index: self.index + 1,
-            before,
-            total: self.total,
-            fine: self.fine,
+            sums: self.sums.map(|sums| Sums {
+                before: sums.before + weight,
+                ..sums
+            }),
         }
     }
 
@@ -101,22 +96,24 @@ impl<'a> Item<'a> {
             return self;
         }
         let index = self.index - 1;
-        let before = self.before - self.share(index);
+        let weight = weight_at(self.weights, index);
         Item {
             weights: self.weights,
             index,
-            before,
-            total: self.total,
-            fine: self.fine,
+            sums: self.sums.map(|sums| Sums {
+                before: sums.before - weight,
+                ..sums
+            }),
         }
     }
 
     // Whether codes have a word for it.
+    #[tactic(auto, using(crate::proofs::Accepting::accepts_exact))]
     pub fn accepted(&self) -> bool
         ensures told { result ≡ accepts self.now.weights.now self.now.index }
         ensures exact { Exactly result (Weights self.now.weights.now × (self.now.index < length self.now.weights.now)) }
     {
-        self.fine && self.index < self.weights.len()
+        self.sums.is_some() && self.index < self.weights.len()
     }
 
     // The whole list.
@@ -143,13 +140,13 @@ impl<'a> Item<'a> {
     pub fn before(&self) -> u32
         ensures { result ≡ sum_before self.now.weights.now self.now.index }
     {
-        self.before
+        self.sums.map_or(0, |sums| sums.before)
     }
 
     // The sum of all weights; 0 where codes don't take the list.
     pub fn total(&self) -> u32
         ensures { result ≡ sum_of_all self.now.weights.now }
     {
-        self.total
+        self.sums.map_or(0, |sums| sums.total)
     }
 }

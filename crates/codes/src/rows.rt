@@ -1,7 +1,7 @@
 // The words of a whole list, in rows.
 ghost use Rattle.std.specs.Prelude.{◌≡◌, ◌/◌, ◌%◌, length, is_ok, if◌then◌else◌, slice_set};
 ghost use Rattle.codes.specs.Words.{half_range};
-ghost use Rattle.codes.specs.Rows.{encode_answer, Encoded, Same};
+ghost use Rattle.codes.specs.Rows.{encode_answer, Encoded, SameRows};
 
 use crate::code::Code;
 use crate::item::Item;
@@ -24,7 +24,7 @@ pub struct WordRows<'a> {
     pub len: &'a mut [u16],
 }
 
-// Writes a number at a place of a row, if the row has it.
+// Writes a number at a place of a row, if the row has it. By `get_mut` its proof did not close: no number of the row is known then.
 fn put_at(row: &mut [u16], place: usize, number: u16)
     ensures { row.new ≡ slice_set row.old place number }
 {
@@ -39,7 +39,7 @@ impl WordRows<'_> {
         ensures high { self.new.high.now ≡ slice_set self.old.high.now place (word.value / half_range) }
         ensures low { self.new.low.now ≡ slice_set self.old.low.now place (word.value % half_range) }
         ensures len { self.new.len.now ≡ slice_set self.old.len.now place word.len }
-        ensures same { Same self.old self.new }
+        ensures same { SameRows self.old self.new }
     {
         put_at(self.high, place, word.high());
         put_at(self.low, place, word.low());
@@ -52,7 +52,7 @@ impl WordRows<'_> {
 pub fn encode<C: Code>(code: &C, weights: &[u16], rows: &mut WordRows) -> Result<(), EncodeRefusal>
     ensures told { result ≡ encode_answer weights.now (length rows.old.high.now) (length rows.old.low.now) (length rows.old.len.now) }
     ensures rows { Encoded (C.words code.now weights.now) (if is_ok result then length weights.now else 0) rows.old.high.now rows.old.low.now rows.old.len.now rows.new.high.now rows.new.low.now rows.new.len.now }
-    ensures same { Same rows.old rows.new }
+    ensures same { SameRows rows.old rows.new }
 {
     let mut item = Item::at(weights, 0);
     if !item.accepted() {

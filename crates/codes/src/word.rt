@@ -1,6 +1,7 @@
 // A word of bits.
-ghost use Rattle.std.specs.Prelude.{◌≡◌, ◌+◌, ◌*◌, ◌/◌, ◌%◌};
+ghost use Rattle.std.specs.Prelude.{◌≡◌, ◌+◌, ◌*◌, ◌/◌, ◌%◌, ◌^◌, ◌<◌};
 ghost use Rattle.codes.specs.Words.{half_range};
+ghost use Rattle.codes.specs.Halves.{with_bit};
 
 // A value is kept as two numbers of 16 bits, its high and its low half; so many numbers have 16 bits.
 const HALF_RANGE: u32 = 65536;
@@ -25,6 +26,18 @@ impl Word {
         ensures { result ≡ self.value % half_range }
     {
         (self.value % HALF_RANGE) as u16
+    }
+
+    // The word with one bit more at its end.
+    pub(crate) fn with_bit(self, bit: bool) -> Word
+        requires small { self.value < 2 ^ self.len }
+        requires room { self.len < 32 }
+        ensures { result ≡ with_bit self bit }
+    {
+        Word {
+            value: 2 * self.value + u32::from(bit),
+            len: self.len + 1,
+        }
     }
 }
 

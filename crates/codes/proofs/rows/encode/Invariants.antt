@@ -1,5 +1,5 @@
 use Rattle.std.proofs.Common.{◌≡◌, ◌-◌, ◌≤◌, length}
-use Rattle.codes.specs.Rows.{Encoded, Same}
+use Rattle.codes.specs.Rows.{Encoded, SameRows}
 use Rattle.codes.proofs.rows.encode.Given as goal
 
 -- the words of the items before this one are written
@@ -8,7 +8,7 @@ invariant-loop-word g l =
     (l.item.weights.now ≡ l.weights)
     × (l.item.index ≤ length l.weights)
     × Encoded (g.C.Code.words l.code l.weights) l.item.index l.initial.rows.high.now l.initial.rows.low.now l.initial.rows.len.now l.rows.high.now l.rows.low.now l.rows.len.now
-    × Same l.initial.rows l.rows
+    × SameRows l.initial.rows l.rows
 
 abbrev pub decreases-loop-word : goal.decreases-loop-word
 decreases-loop-word g l = length l.weights - l.item.index
