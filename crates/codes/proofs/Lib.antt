@@ -2,3 +2,4 @@ pub mod Accepting
 pub mod Answering
 pub mod Shifts
 pub mod Descents
+pub mod Encoding
