@@ -19,17 +19,7 @@ use Rattle.formats.proofs.Answering.{length_label}
 use Rattle.formats.proofs.Read.{outcome_ok, outcome_err}
 use Rattle.histories.specs.Model.{Refusal, in_tag, other_tree, not_one_tree, own_fault, start_fault, add_fault, part_of, joined}
 use Rattle.racks.specs.Refusals.{refused_pair}
-use Rattle.racks.specs.Tags.{no_fault, readable}
 use Rattle.racks.specs.Views.{refusal_of}
-
--- a tag, by a truth value and by its fault
-
-pub tag_from : (bs : List ℕ) → readable bs ≡ true → tag_fault bs ≡ None
-tag_from bs = go (tag_fault bs)
-  where
-    go : (o : Option TagFault) → no_fault o ≡ true → o ≡ None
-    go None e = refl
-    go (Some fault) e = let z : ◌≡◌ {A = ℕ} 0 1 = cc in absurd (omega arith)
 
 -- to start
 
@@ -56,12 +46,16 @@ module _ (h b : List ℕ) (f : tag_fault h ≡ None) where
   abbrev Clash : Option PairRefusal
   Clash = cond (clash (label_of h) (label_of b)) (Some NotOneTree) None
 
+  abbrev second_on : Option TagFault → Bool → Option PairRefusal
+  second_on o differ = fault_on Second o (cond differ (Some TreeNumbers) Clash)
+
+  to_second : pair_fault h b ≡ second_on (tag_fault b) (not (tree_of h == tree_of b))
+  to_second = ap (λ o. fault_on First o (second_on (tag_fault b) (not (tree_of h == tree_of b)))) f
+
   -- a rack for the held tag's tree refuses what a query on the two tags refuses
   pub add_is : add_fault (tree_of h) h b ≡ told_of (pair_fault h b)
   unfolding add_fault
-  add_is =
-      go (tag_fault b) (not (tree_of h == tree_of b)) (clash (label_of h) (label_of b))
-      ∙ sym (ap (λ o. told_of (fault_on First o (fault_on Second (tag_fault b) (cond (not (tree_of h == tree_of b)) (Some TreeNumbers) Clash)))) f)
+  add_is = go (tag_fault b) (not (tree_of h == tree_of b)) (clash (label_of h) (label_of b)) ∙ sym (ap told_of to_second)
     where
       go : (o : Option TagFault) (p q : Bool) → own_fault o (cond p (Some other_tree) (cond q (Some not_one_tree) None)) ≡ told_of (fault_on Second o (cond p (Some TreeNumbers) (cond q (Some NotOneTree) None)))
       go (Some fault) p q = refl
@@ -71,11 +65,9 @@ module _ (h b : List ℕ) (f : tag_fault h ≡ None) where
 
   -- tags of which no query is refused have one number
   one_number : pair_fault h b ≡ None → tree_of b ≡ tree_of h
-  one_number n =
-      sym
-      (go (tag_fault b) (tree_of h == tree_of b) refl (sym (ap (λ o. fault_on First o (fault_on Second (tag_fault b) (cond (not (tree_of h == tree_of b)) (Some TreeNumbers) Clash))) f) ∙ n))
+  one_number n = sym (go (tag_fault b) (tree_of h == tree_of b) refl (sym to_second ∙ n))
     where
-      go : (o : Option TagFault) (t : Bool) → tree_of h == tree_of b ≡ t → fault_on Second o (cond (not t) (Some TreeNumbers) Clash) ≡ None → tree_of h ≡ tree_of b
+      go : (o : Option TagFault) (t : Bool) → tree_of h == tree_of b ≡ t → second_on o (not t) ≡ None → tree_of h ≡ tree_of b
       go (Some fault) t g k = cc
       go None true g k = eqb-true (tree_of h) (tree_of b) g
       go None false g k = cc

@@ -1,4 +1,3 @@
 pub mod Refusals
-pub mod Tags
 pub mod Sound
 pub mod Views

@@ -1,13 +1,13 @@
 // A held tag.
-ghost use Rattle.std.specs.Prelude.{◌≡◌, true};
-ghost use Rattle.racks.specs.Tags.{readable};
+ghost use Rattle.std.specs.Prelude.{◌≡◌, None};
+ghost use Rattle.formats.specs.Faults.{tag_fault};
 
 use arrayvec::ArrayVec;
 use tags::limits::MOST_TAG_BYTES;
 
-// The bytes are a tag.
+// The bytes are a tag. That it is of a rack's tree number is a fact of the rack: a held tag knows of no rack.
 #[derive(Drop)]
 pub(crate) struct Held {
     pub(crate) bytes: ArrayVec<u8, MOST_TAG_BYTES>,
-    ghost reads: { readable bytes.items ≡ true },
+    ghost reads: { tag_fault bytes.items ≡ None },
 }

@@ -4,7 +4,7 @@ use Rattle.formats.specs.Cuts.{cut_tag}
 use Rattle.formats.specs.Layout.{tree_of}
 use Rattle.formats.specs.Pairs.{side_of}
 use Rattle.racks.specs.Sound.{held_bytes}
-use Rattle.racks.proofs.Verdicts.{tag_from, join_refused, join_fine, join_bytes, join_tree, part_within}
+use Rattle.racks.proofs.Verdicts.{join_refused, join_fine, join_bytes, join_tree, part_within}
 use Rattle.racks.proofs.held.Held.joined_with.Goals.{in-First, in-Second}
 use Rattle.racks.proofs.held.Held.joined_with.Goals as goal
 
@@ -12,7 +12,7 @@ pub returns-in_err-part : goal.returns-in_err-part
 returns-in_err-part c =
     let p = err_from_is_err_and c.from_residual.result c.from_residual.ensures.1 in
     let h = held_bytes c.args.self.now in
-    let f = tag_from h c.args.self.now.reads in
+    let f = c.args.self.now.reads in
     rw (p.1, p.2) (join_refused h c.args.tag.now f _ (rw c.tag-held.ensures at c.in_err-part.ensures.answer))
 
 pub front-requires-clause-within : goal.front-requires-clause-within
@@ -28,7 +28,7 @@ returns c =
     let h = held_bytes c.args.self.now in
     let b = c.args.tag.now in
     let p = c.in_ok-part.part in
-    let f = tag_from h c.args.self.now.reads in
+    let f = c.args.self.now.reads in
     let a = rw c.tag-held.ensures at c.in_ok-part.ensures.answer in
     let s : c.match-part.cut_from.now ≡ side_of p.side h b = elim c.match-part.branch [ in-First w ↦ rw (w.cut_from-is, w.in-First.is) c.tag-held.ensures | in-Second w ↦ rw (w.cut_from-is, w.in-Second.is) ] in (
       join_fine h b f p a,
