@@ -136,16 +136,27 @@ pub record Above (up : List ℕ) (f : List ℕ → ℕ → Word) (tops plen blen
       → at row (at up (at tops v)) + at blen (at tops v) + at plen v ≡ length (body_in (row_label f up v))
   pub fields_are : (row : List ℕ) → ((w : ℕ) → w < v → at row w ≡ length (row_label f up w)) → at row (at up (at tops v)) + 2 ≡ length (row_label f up v)
 
-module _ (up : List ℕ) (r : Rooted up) (f : List ℕ → ℕ → Word) (tops ph pl plen bh bl blen : List ℕ) (T : TopRow up tops) (PR : PathRows f up ph pl plen) (BR : BranchRows f up bh bl blen) (v : ℕ) (l : v < length up) (ne : at tops v ≡ 0 → ⊥) where
+-- what the rows hold of a tree's paths and words
+pub record Worded (f : List ℕ → ℕ → Word) (up tops ph pl plen bh bl blen : List ℕ) : Type 0 where
+  pub rooted : Rooted up
+  pub topped : TopRow up tops
+  pub paths : PathRows f up ph pl plen
+  pub branches : BranchRows f up bh bl blen
+
+pub top_in : (up tops : List ℕ) → Rooted up → TopRow up tops → (v : ℕ) → v < length up → at tops v < length up
+top_in up tops r T v l = let e = T v l in omega (arith, top_low up r v)
+
+module _ {f : List ℕ → ℕ → Word} {up tops ph pl plen bh bl blen : List ℕ} (W : Worded f up tops ph pl plen bh bl blen) (v : ℕ) (l : v < length up) (ne : at tops v ≡ 0 → ⊥) where
   pub above : Above up f tops plen blen v
   above =
-      let e = T v l in
+      let r = W.rooted in
+      let e = W.topped v l in
       let le = top_low up r v in
       let nz : top (parents_in up) (length up) v ≡ 0 → ⊥ = λ z. ne (e ∙ z) in
       let b = r.below (at tops v) (omega arith) (omega arith) in
       let same : at up (at tops v) ≡ at up (top (parents_in up) (length up) v) = ap (at up) e in
-      let br : at blen (at tops v) ≡ (branch_word (parents_in up) (length up) f (at up (top (parents_in up) (length up) v)) (top (parents_in up) (length up) v)).len = ap (at blen) e ∙ (BR (at up (top (parents_in up) (length up) v)) (top (parents_in up) (length up) v) (light_top up r v l nz)).1 in
-      let pr = (PR v l).1 in
+      let br : at blen (at tops v) ≡ (branch_word (parents_in up) (length up) f (at up (top (parents_in up) (length up) v)) (top (parents_in up) (length up) v)).len = ap (at blen) e ∙ (W.branches (at up (top (parents_in up) (length up) v)) (top (parents_in up) (length up) v) (light_top up r v l nz)).1 in
+      let pr = (W.paths v l).1 in
       record {
         top_in = (omega arith, omega arith);
         below = omega arith;

@@ -1,7 +1,8 @@
 -- Chains of rising links.
 use Rattle.std.proofs.Common.{◌≡◌, ℕ, zero, suc, ◌+◌, ◌-◌, ◌<◌, ◌≤◌, cond, eqb, List, [], ◌∷◌, ◌++◌, map, length, take, drop, set, None, Some, Option, sym, refl, ap, ◌∙◌, ⊎_elim, add-zero, arith, length-set, get_or-set_same}
+use Rattle.std.specs.List.{AllByRecursion}
 use Rattle.std.proofs.lemmas.Bool.{cases_eq, eq-eqb, ne_eqb}
-use Rattle.std.proofs.lemmas.List.{append_assoc, append-nil, take_more, take-set, length-drop, get_or-drop, drop-drop}
+use Rattle.std.proofs.lemmas.List.{append_assoc, take_more, take-set, length-drop, get_or-drop, drop-drop}
 use Rattle.rows.specs.Chains.{at, Rising, link, run, chain, ahead}
 
 -- the first of what is left of a list, and what is left after it
@@ -89,6 +90,15 @@ module _ (next : List ℕ) (R : Rising next) where
       rw (ne_eqb (at next c) 0 ne) (run_rises k (at next c) i j u.1 (omega arith) (omega arith)))
       (cases_eq (at next c) 0)
 
+  run_inside : (k c : ℕ) → c < length next → AllByRecursion (λ x. x < length next) (run k next c)
+  unfolding run
+  run_inside zero c l = (l, tt)
+  run_inside (suc k) c l =
+      ⊎_elim (λ z. rw (eq-eqb (at next c) 0 z) (l, tt)) (λ ne. let u = R c l ne in rw (ne_eqb (at next c) 0 ne) (l, run_inside k (at next c) u.1)) (cases_eq (at next c) 0)
+
+  pub chain_inside : (c : ℕ) → c < length next → AllByRecursion (λ x. x < length next) (chain next c)
+  chain_inside c l = run_inside (length next) c l
+
   -- what stands along a chain: nodes that rise, so no more of them than there are
   pub chain_in : (c i : ℕ) → c < length next → i < length (chain next c) → at (chain next c) i < length next
   chain_in c i l h = (run_in (length next) c i l h).1
@@ -120,20 +130,9 @@ module _ (next : List ℕ) (R : Rising next) where
 
 -- ---- weights along a chain
 
--- the first k of the list are the weights of the first k of the nodes, after which others are left
-pub record Gathered (weight nodes list left : List ℕ) (k : ℕ) : Type 0 where
-  pub within : k ≤ length nodes
-  pub ahead : drop k nodes ≡ left
-  pub listed : take k list ++ map (at weight) left ≡ map (at weight) nodes
-
-module _ {weight nodes list left : List ℕ} {k : ℕ} where
-  pub gather_on : (c : ℕ) {rest : List ℕ} → k < length list → left ≡ c ∷ rest → Gathered weight nodes list left k → Gathered weight nodes (set list k (at weight c)) rest (k + 1)
-  gather_on c {rest} lt e g =
-      let l : k < length (set list k (at weight c)) = simp length-set (omega arith) in
-      let put : take (k + 1) (set list k (at weight c)) ≡ take k list ++ (at weight c ∷ []) = take_more (set list k (at weight c)) k 0 l ∙ rw (get_or-set_same list k (at weight c) 0 lt, take-set) refl in
-      let more = left_more nodes k c rest (g.ahead ∙ e) in
-      record {
-        within = omega (arith, more.0);
-        ahead = more.2;
-        listed = rw put (append_assoc (take k list) (at weight c ∷ []) (map (at weight) rest) ∙ ap (λ xs. take k list ++ map (at weight) xs) (sym e) ∙ g.listed);
-      }
+-- the weight of one node more, of those that are left, goes into the list
+pub listed_more : (weight list left rest all : List ℕ) (k c : ℕ) → left ≡ c ∷ rest → k < length list → take k list ++ map (at weight) left ≡ all → take (k + 1) (set list k (at weight c)) ++ map (at weight) rest ≡ all
+listed_more weight list left rest all k c e lt h =
+    let l : k < length (set list k (at weight c)) = simp length-set (omega arith) in
+    let put : take (k + 1) (set list k (at weight c)) ≡ take k list ++ (at weight c ∷ []) = take_more (set list k (at weight c)) k 0 l ∙ rw (get_or-set_same list k (at weight c) 0 lt, take-set) refl in
+    rw put (append_assoc (take k list) (at weight c ∷ []) (map (at weight) rest) ∙ ap (λ xs. take k list ++ map (at weight) xs) (sym e) ∙ h)

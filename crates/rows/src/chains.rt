@@ -80,6 +80,7 @@ pub struct Desk<'a> {
 }
 
 // Puts the weights of the nodes along the links into a list, and tells how many there are.
+#[tactic(auto, using(crate::proofs::Runs::listed_more))]
 fn list_weights(chains: &Chains, from: usize, list: &mut [u16]) -> usize
     requires inside { from < length chains.now.next.now }
     requires room { length list.old ≡ length chains.now.next.now }

@@ -30,6 +30,7 @@ impl Grown<'_> {
 }
 
 // The size of each node: itself and all below it.
+#[tactic(auto, using(crate::proofs::Handing::from_all, crate::proofs::Handing::turn, crate::proofs::Handing::turn_fits))]
 pub fn sizes(up: &Parents, size: &mut [u16])
     requires { length size.old ≡ length up.now.row.now }
     ensures { SizeRow up.now.row.now size.new }
@@ -64,6 +65,7 @@ pub fn heavies(up: &Parents, size: &[u16], heavy: &mut [u16])
 }
 
 // The light size of each node.
+#[tactic(auto, using(crate::proofs::Trees::heavy_up, crate::proofs::Runs::link_some))]
 pub fn lights(grown: &Grown, light: &mut [u16])
     requires { length light.old ≡ length grown.now.up.row.now }
     ensures { LightRow grown.now.up.row.now light.new }

@@ -23,6 +23,7 @@ pub fn tops(grown: &Grown, top: &mut [u16])
 }
 
 // The depth of each node.
+#[tactic(auto, using(crate::proofs::Labelled::depth_low))]
 pub fn depths(up: &Parents, depth: &mut [u16])
     requires { length depth.old ≡ length up.now.row.now }
     ensures { DepthRow up.now.row.now depth.new }
@@ -34,6 +35,7 @@ pub fn depths(up: &Parents, depth: &mut [u16])
 }
 
 // How many bits and how many fields each node's label has.
+#[tactic(auto, using(crate::proofs::Labelled::top_in))]
 pub fn counts<C: Code>(words: &TreeWords<C>, bits: &mut [u16], fields: &mut [u16])
     requires bitses { length bits.old ≡ length words.now.up.row.now }
     requires fieldses { length fields.old ≡ length words.now.up.row.now }

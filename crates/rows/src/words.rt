@@ -29,6 +29,7 @@ pub struct Linked<'a> {
 }
 
 // The path word of each node.
+#[tactic(auto, using(crate::proofs::Trees::heavy_rising))]
 pub fn path_words<C: Code>(code: &C, tree: &Weighed, desk: &mut Desk)
     requires { length desk.old.list.now ≡ length tree.now.grown.up.row.now }
     ensures paths { PathRows (C.words code.now) tree.now.grown.up.row.now desk.new.words.high.now desk.new.words.low.now desk.new.words.len.now }

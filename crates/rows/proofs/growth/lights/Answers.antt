@@ -3,17 +3,10 @@ use Rattle.labels.specs.Sizes.{light_size}
 use Rattle.rows.specs.Chains.{at}
 use Rattle.rows.specs.Rows.{parents_in}
 use Rattle.rows.proofs.Runs.{link_none, link_some}
-use Rattle.rows.proofs.Trees.{heavy_up}
 use Rattle.rows.proofs.PathRows.{light_leaf, light_rest_fits, light_rest_is}
 use Rattle.rows.proofs.Labelled.{stored_more}
 use Rattle.rows.proofs.growth.lights.Goals as goal
 use Rattle.rows.proofs.growth.lights.Goals.{in-None, in-Some}
-
-pub bounds-grown-h : goal.bounds-grown-h
-bounds-grown-h c =
-    let g = c.args.grown.now in
-    let k = link_some (at g.heavy.now c.loop-v.v) c.in-Some.h c.in-Some.ensures in
-    omega (arith, heavy_up g.up.row.now g.heavy.now g.up.rooted g.chosen g.heavies c.loop-v.v (omega arith) k.1, k.0, g.sizes)
 
 pub overflow_sub-place : goal.overflow_sub-place
 overflow_sub-place c =

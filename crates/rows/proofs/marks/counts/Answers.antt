@@ -24,33 +24,23 @@ loop-v-preserved g c =
             subst (Q G) (sym w.fields-is) (stored_more G c.loop-v.fields v 1 (fields_root up c.args.words.now.up.rooted f v l z) (omega arith) c.loop-v.invariant.1),
           )
       | else-t-eq0 w ↦
-          let A = above up c.args.words.now.up.rooted f c.args.words.now.top.now c.args.words.now.path.high.now c.args.words.now.path.low.now c.args.words.now.path.len.now c.args.words.now.branch.high.now c.args.words.now.branch.low.now c.args.words.now.branch.len.now c.args.words.now.topped c.args.words.now.paths c.args.words.now.branches v l w.if-t-eq0.false in (
+          let A = above (record { rooted = c.args.words.now.up.rooted; topped = c.args.words.now.topped; paths = c.args.words.now.paths; branches = c.args.words.now.branches }) v l w.if-t-eq0.false in (
             subst (Q F) (sym w.bits-is) (stored_more F c.loop-v.bits v _ (A.bits_are c.loop-v.bits c.loop-v.invariant.0) (omega arith) c.loop-v.invariant.0),
             subst (Q G) (sym w.fields-is) (stored_more G c.loop-v.fields v _ (A.fields_are c.loop-v.fields c.loop-v.invariant.1) (omega arith) c.loop-v.invariant.1),
           )
     ]
 
-pub bounds-words-t : goal.bounds-words-t
-bounds-words-t g c =
-    let A = above c.args.words.now.up.row.now c.args.words.now.up.rooted (g.C.Code.words c.args.words.now.code.now) c.args.words.now.top.now c.args.words.now.path.high.now c.args.words.now.path.low.now c.args.words.now.path.len.now c.args.words.now.branch.high.now c.args.words.now.branch.low.now c.args.words.now.branch.len.now c.args.words.now.topped c.args.words.now.paths c.args.words.now.branches c.loop-v.v (omega arith) c.if-t-eq0.false in
-    omega (arith, A.top_in)
-
-pub bounds-words-t-else-t-eq0 : goal.bounds-words-t-else-t-eq0
-bounds-words-t-else-t-eq0 g c =
-    let A = above c.args.words.now.up.row.now c.args.words.now.up.rooted (g.C.Code.words c.args.words.now.code.now) c.args.words.now.top.now c.args.words.now.path.high.now c.args.words.now.path.low.now c.args.words.now.path.len.now c.args.words.now.branch.high.now c.args.words.now.branch.low.now c.args.words.now.branch.len.now c.args.words.now.topped c.args.words.now.paths c.args.words.now.branches c.loop-v.v (omega arith) c.if-t-eq0.false in
-    omega (arith, A.top_in)
-
 pub overflow_add-bits : goal.overflow_add-bits
 overflow_add-bits g c =
-    let A = above c.args.words.now.up.row.now c.args.words.now.up.rooted (g.C.Code.words c.args.words.now.code.now) c.args.words.now.top.now c.args.words.now.path.high.now c.args.words.now.path.low.now c.args.words.now.path.len.now c.args.words.now.branch.high.now c.args.words.now.branch.low.now c.args.words.now.branch.len.now c.args.words.now.topped c.args.words.now.paths c.args.words.now.branches c.loop-v.v (omega arith) c.if-t-eq0.false in
+    let A = above (record { rooted = c.args.words.now.up.rooted; topped = c.args.words.now.topped; paths = c.args.words.now.paths; branches = c.args.words.now.branches }) c.loop-v.v (omega arith) c.if-t-eq0.false in
     omega (arith, A.bits_are c.loop-v.bits c.loop-v.invariant.0, few_bits c.args.words.now.up.row.now c.args.words.now.up.rooted (g.C.Code.words c.args.words.now.code.now) (g.C.Code.laws c.args.words.now.code.now) c.loop-v.v (omega arith))
 
 pub overflow_add-bits-else-t-eq0 : goal.overflow_add-bits-else-t-eq0
 overflow_add-bits-else-t-eq0 g c =
-    let A = above c.args.words.now.up.row.now c.args.words.now.up.rooted (g.C.Code.words c.args.words.now.code.now) c.args.words.now.top.now c.args.words.now.path.high.now c.args.words.now.path.low.now c.args.words.now.path.len.now c.args.words.now.branch.high.now c.args.words.now.branch.low.now c.args.words.now.branch.len.now c.args.words.now.topped c.args.words.now.paths c.args.words.now.branches c.loop-v.v (omega arith) c.if-t-eq0.false in
+    let A = above (record { rooted = c.args.words.now.up.rooted; topped = c.args.words.now.topped; paths = c.args.words.now.paths; branches = c.args.words.now.branches }) c.loop-v.v (omega arith) c.if-t-eq0.false in
     omega (arith, A.bits_are c.loop-v.bits c.loop-v.invariant.0, few_bits c.args.words.now.up.row.now c.args.words.now.up.rooted (g.C.Code.words c.args.words.now.code.now) (g.C.Code.laws c.args.words.now.code.now) c.loop-v.v (omega arith))
 
 pub overflow_add-fields : goal.overflow_add-fields
 overflow_add-fields g c =
-    let A = above c.args.words.now.up.row.now c.args.words.now.up.rooted (g.C.Code.words c.args.words.now.code.now) c.args.words.now.top.now c.args.words.now.path.high.now c.args.words.now.path.low.now c.args.words.now.path.len.now c.args.words.now.branch.high.now c.args.words.now.branch.low.now c.args.words.now.branch.len.now c.args.words.now.topped c.args.words.now.paths c.args.words.now.branches c.loop-v.v (omega arith) c.if-t-eq0.false in
+    let A = above (record { rooted = c.args.words.now.up.rooted; topped = c.args.words.now.topped; paths = c.args.words.now.paths; branches = c.args.words.now.branches }) c.loop-v.v (omega arith) c.if-t-eq0.false in
     omega (arith, A.fields_are c.loop-v.fields c.loop-v.invariant.1, few_fields c.args.words.now.up.row.now c.args.words.now.up.rooted (g.C.Code.words c.args.words.now.code.now) c.loop-v.v (omega arith))

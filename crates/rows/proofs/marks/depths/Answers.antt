@@ -2,15 +2,9 @@ use Rattle.std.proofs.Common.{◌≡◌, ℕ, ◌+◌, ◌<◌, ◌≤◌, lengt
 use Rattle.rows.specs.Chains.{at}
 use Rattle.trees.specs.Above.{depth_of}
 use Rattle.rows.specs.Rows.{parents_in}
-use Rattle.rows.proofs.Labelled.{stored_more, depth_root, depth_more, depth_low}
+use Rattle.rows.proofs.Labelled.{stored_more, depth_root, depth_more}
 use Rattle.rows.proofs.marks.depths.Goals as goal
 use Rattle.rows.proofs.marks.depths.Goals.{then-v-eq0, else-v-eq0}
-
-pub overflow_add-depth : goal.overflow_add-depth
-overflow_add-depth c =
-    let up = c.args.up.now in
-    let b = up.rooted.below c.loop-v.v (omega (arith, c.if-v-eq0.false)) (omega arith) in
-    omega (arith, c.loop-v.invariant (at up.row.now c.loop-v.v) b, depth_low up.row.now up.rooted (at up.row.now c.loop-v.v), up.rooted.few)
 
 pub loop-v-preserved : goal.loop-v-preserved
 loop-v-preserved c =

@@ -1,14 +1,9 @@
 use Rattle.std.proofs.Common.{◌<◌, length, arith}
 use Rattle.labels.proofs.Paths.{top_le}
-use Rattle.rows.proofs.Trees.{tree, heavy_rising}
+use Rattle.rows.proofs.Trees.{tree}
 use Rattle.rows.proofs.PathRows.{path_fine, begins, path_skip, path_turn}
 use Rattle.rows.proofs.words.path_words.Goals as goal
 use Rattle.rows.proofs.words.path_words.Goals.{then-not-is_heavy, else-not-is_heavy}
-
-pub invariant_of-paths : goal.invariant_of-paths
-invariant_of-paths g c =
-    let t = c.args.tree.now.grown in
-    record { rising = heavy_rising t.up.row.now t.heavy.now t.up.rooted t.chosen t.heavies; weighed = omega (arith, t.heavies) }
 
 pub code_chain-requires-clause-fine : goal.code_chain-requires-clause-fine
 code_chain-requires-clause-fine g c =
