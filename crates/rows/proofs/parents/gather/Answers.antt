@@ -1,7 +1,10 @@
-use Rattle.std.proofs.Common.{◌≡◌, ℕ, length, None, Some, Option, sym, ◌∙◌, arith}
+use Rattle.std.proofs.Common.{◌≡◌, ℕ, length, None, Some, Option, sym, arith}
 use Rattle.rows.proofs.Bridge.{rooted, same, more_stored}
 use Rattle.rows.proofs.parents.gather.Goals as goal
 use Rattle.rows.proofs.parents.gather.Goals.{in-Some, in_default}
+
+not_both : {o : Option ℕ} {p : ℕ} → None ≡ o → o ≡ Some p → ⊥
+not_both e f = cc
 
 pub loop-v-preserved : goal.loop-v-preserved
 loop-v-preserved g c =
@@ -10,8 +13,7 @@ loop-v-preserved g c =
       | in_default w ↦ λ k a b.
           let t = g.H.Host.laws c.args.host.now (length c.args.row.now) c.requires.tree in
           let i = t.inner c.loop-v.v (omega arith) (omega arith) in
-          let e : ◌≡◌ {A = Option ℕ} None (Some i.0) = w.in_default.ensures ∙ i.1 in
-          absurd cc
+          absurd (not_both w.in_default.ensures i.1)
     ]
 
 pub invariant_of-result : goal.invariant_of-result
