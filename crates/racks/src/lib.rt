@@ -1,9 +1,7 @@
 // The rack: sixteen places, the tickets to them, and the calls, each pinned to the model of `histories`.
 #![tactic(auto)]
 
-mod calls;
 mod held;
-mod holding;
 mod place;
 pub mod rack;
 pub mod refusal;
