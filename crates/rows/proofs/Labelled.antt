@@ -42,9 +42,6 @@ module _ (up : List ℕ) (r : Rooted up) where
   pub top_low : (v : ℕ) → top P N v ≤ v
   top_low v = top_le (tree up r) v
 
-  pub top_root : top P N 0 ≡ 0
-  top_root = (top_none (tree up r) 0 (tree up r).root).0
-
   pub depth_root : depth_of P 0 ≡ 0
   depth_root = depth_none (tree up r) 0 (tree up r).root
 

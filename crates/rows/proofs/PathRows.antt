@@ -113,8 +113,3 @@ module _ (up row light : List ℕ) (r : Rooted up) (H : HeavyRow up row) (even :
             let got = S.held (place (parents_in up) (length up) u) inside in
             subst (λ (x : ℕ). Held (f (path_weights (parents_in up) (length up) x) (place (parents_in up) (length up) u)) a' b' c' u) (sym same)
             (subst (λ (ws : List ℕ). Held (f ws (place (parents_in up) (length up) u)) a' b' c' u) (weights t l) (subst (λ (x : ℕ). Held (f (map (at light) (chain row t)) (place (parents_in up) (length up) u)) a' b' c' x) here got))
-
--- at equal rows
-pub moved : (P : List ℕ → List ℕ → List ℕ → Type 0) (a b c a' b' c' : List ℕ) → a ≡ a' → b ≡ b' → c ≡ c' → P a' b' c' → P a b c
-moved P a b c a' b' c' d e f h =
-    subst (λ (x : List ℕ). P x b c) (sym d) (subst (λ (x : List ℕ). P a' x c) (sym e) (subst (λ (x : List ℕ). P a' b' x) (sym f) h))

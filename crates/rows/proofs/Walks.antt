@@ -26,9 +26,6 @@ pub record Walk (f : ℕ → Word) (nodes : List ℕ) (i : ℕ) (a b d a' b' d' 
   pub kept : (u : ℕ) → Off nodes u → Same a b d a' b' d' u
 
 module _ (f : ℕ → Word) (nodes a b d : List ℕ) where
-  pub walk_start : Walk f nodes 0 a b d a b d
-  walk_start = record { held = λ j h. absurd (omega arith); kept = λ u h. (refl, refl, refl) }
-
   pub walk_end : (i : ℕ) (a' b' d' : List ℕ) → length nodes ≤ i → Walk f nodes i a b d a' b' d' → Stored f nodes a b d a' b' d'
   walk_end i a' b' d' h W = record { held = λ j l. W.held j (omega arith); kept = W.kept }
 
@@ -52,7 +49,3 @@ module _ (f : ℕ → Word) (nodes a b d : List ℕ) where
               (subst (λ (x : Word). Held x A B D (at nodes i)) e (subst (λ (u : ℕ). Held w A B D u) (sym here) (held_here w a' b' d' c la lb ld)));
           kept = λ u off. same_same a b d a' b' d' A B D u (W.kept u off) (same_else w a' b' d' c u (λ z. off i li (here ∙ sym z)));
         }
-
-pub length-map : (f : ℕ → ℕ) (xs : List ℕ) → length (map f xs) ≡ length xs
-length-map f [] = refl
-length-map f (x ∷ xs) = ap suc (length-map f xs)

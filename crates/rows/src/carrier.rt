@@ -1,5 +1,6 @@
 // The twelve rows of the work memory.
 ghost use Rattle.std.specs.Prelude.{◌≡◌, ◌*◌, ◌≤◌, length};
+ghost use Rattle.rows.specs.Chains.{Wide};
 
 use codes::rows::WordRows;
 
@@ -22,12 +23,8 @@ pub struct Rows<'a> {
     pub ghost lights: { length light.now ≡ length parent.now },
     pub ghost nexts: { length next.now ≡ length parent.now },
     pub ghost lists: { length list.now ≡ length parent.now },
-    pub ghost phs: { length path.high.now ≡ length parent.now },
-    pub ghost pls: { length path.low.now ≡ length parent.now },
-    pub ghost pns: { length path.len.now ≡ length parent.now },
-    pub ghost bhs: { length branch.high.now ≡ length parent.now },
-    pub ghost bls: { length branch.low.now ≡ length parent.now },
-    pub ghost bns: { length branch.len.now ≡ length parent.now },
+    pub ghost wide_paths: { Wide (length parent.now) path.high.now path.low.now path.len.now },
+    pub ghost wide_branches: { Wide (length parent.now) branch.high.now branch.low.now branch.len.now },
 }
 
 impl<'a> Rows<'a> {

@@ -19,7 +19,7 @@ pub fn link(number: u16) -> Option<usize>
     }
 }
 
-// The nodes along links that rise, from one on.
+// The nodes along links that rise, from one on. A proof sees the list of those that are still to come.
 #[derive(Drop)]
 pub struct Links<'a> {
     next: &'a [u16],
@@ -35,6 +35,7 @@ impl<'a> Model for Links<'a> {
 }
 
 impl<'a> Links<'a> {
+    // Begins at a node.
     pub fn along(next: &'a [u16], from: usize) -> Links<'a>
         requires rising { Rising next.now }
         requires inside { from < length next.now }

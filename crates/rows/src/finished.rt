@@ -1,5 +1,6 @@
 // The rows that tags are written from.
 ghost use Rattle.std.specs.Prelude.{◌≡◌, length};
+ghost use Rattle.rows.specs.Chains.{Wide};
 ghost use Rattle.rows.specs.Rows.{PathRows, BranchRows, TopRow, DepthRow, BitsRow, FieldsRow};
 
 use crate::parents::Parents;
@@ -15,12 +16,8 @@ pub struct TreeWords<'a, C: Code> {
     pub path: WordRows<'a>,
     pub branch: WordRows<'a>,
     pub ghost tops: { length top.now ≡ length up.row.now },
-    pub ghost phs: { length path.high.now ≡ length up.row.now },
-    pub ghost pls: { length path.low.now ≡ length up.row.now },
-    pub ghost pns: { length path.len.now ≡ length up.row.now },
-    pub ghost bhs: { length branch.high.now ≡ length up.row.now },
-    pub ghost bls: { length branch.low.now ≡ length up.row.now },
-    pub ghost bns: { length branch.len.now ≡ length up.row.now },
+    pub ghost wide_paths: { Wide (length up.row.now) path.high.now path.low.now path.len.now },
+    pub ghost wide_branches: { Wide (length up.row.now) branch.high.now branch.low.now branch.len.now },
     pub ghost topped: { TopRow up.row.now top.now },
     pub ghost paths: { PathRows (C.words code.now) up.row.now path.high.now path.low.now path.len.now },
     pub ghost branches: { BranchRows (C.words code.now) up.row.now branch.high.now branch.low.now branch.len.now },

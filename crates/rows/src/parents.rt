@@ -12,7 +12,7 @@ pub struct Parents<'a> {
 }
 
 // Asks the host once for the parent of each node, and stores it at the node's place; the root has none, and its place stays.
-pub fn gather<'a, H: Host>(host: &H, row: &'a mut [u16]) -> Parents<'a>
+pub(crate) fn gather<'a, H: Host>(host: &H, row: &'a mut [u16]) -> Parents<'a>
     requires tree { H.verdicts host.now ≡ Ok (length row.old) }
     ensures many { length result.row.now ≡ length row.old }
     ensures held { parents_in result.row.now ≡ H.parents host.now }

@@ -13,7 +13,7 @@ loop-v-preserved g c =
       | in_default w ↦ λ k a b.
           let t = g.H.Host.laws c.args.host.now (length c.args.row.now) c.requires.tree in
           let i = t.inner c.loop-v.v (omega arith) (omega arith) in
-          absurd (not_both w.in_default.ensures i.1)
+          absurd (not_both {o = g.H.Host.parents c.args.host.now c.loop-v.v} w.in_default.ensures i.1)
     ]
 
 pub invariant_of-result : goal.invariant_of-result
