@@ -12,7 +12,7 @@ use Rattle.labels.specs.Paths.{top}
 use Rattle.labels.specs.Labels.{path_word, branch_word, path_field, branch_field}
 use Rattle.labels.specs.Bounds.{most_label_fields, most_label_bits}
 use Rattle.labels.proofs.Sizes.{heavy_test, light_test}
-use Rattle.labels.proofs.Paths.{top_none, top_heavy, top_le}
+use Rattle.labels.proofs.Paths.{top_heavy, top_le}
 use Rattle.labels.proofs.Weighing.{path_fit, branch_fit}
 use Rattle.labels.proofs.Labels.{definitions_mean}
 use Rattle.labels.proofs.Short as short

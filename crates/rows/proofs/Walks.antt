@@ -1,5 +1,5 @@
 -- Words stored along a chain.
-use Rattle.std.proofs.Common.{◌≡◌, ℕ, suc, ◌+◌, ◌/◌, ◌%◌, ◌<◌, ◌≤◌, ◌≢◌, List, [], ◌∷◌, map, length, set, sym, refl, ap, ◌∙◌, subst, arith, get_or-set_other, get_or-set_same, below_more}
+use Rattle.std.proofs.Common.{◌≡◌, ℕ, ◌+◌, ◌/◌, ◌%◌, ◌<◌, ◌≤◌, ◌≢◌, List, length, set, sym, ◌∙◌, subst, arith, get_or-set_other, get_or-set_same, below_more}
 use Rattle.codes.specs.declared.word.Word.{Word}
 use Rattle.rows.specs.Chains.{at, Held, Same, Off, Stored}
 
