@@ -11,3 +11,4 @@ pub mod RuleLaw
 pub mod Indented
 pub mod IndentedLaw
 pub mod Climbing
+pub mod Texts

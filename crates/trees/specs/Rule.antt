@@ -1,18 +1,12 @@
 -- What a host by a rule answers.
-use Rattle.std.specs.Prelude.{ℕ, ◌-◌, ◌/◌, cond, Some, Ok, Err, Option, Result, ◌==◌, nat_lt, List, codes}
-use Rattle.trees.specs.declared.host.FaultKind.TheVariants.{Empty, TooMany}
+use Rattle.std.specs.Prelude.{ℕ, ◌-◌, ◌/◌, Some, Option, Result, List, codes}
 use Rattle.trees.specs.declared.host.HostFault.{HostFault}
 use Rattle.trees.specs.declared.rule.Shape.{Shape}
 use Rattle.trees.specs.declared.rule.Shape.TheVariants.{Chain, Star, Binary}
-use Rattle.trees.specs.Tree.{most_nodes}
-use Rattle.trees.specs.Fault.{fault}
-use Rattle.trees.specs.Host.{for_children}
+use Rattle.trees.specs.Host.{count_verdict, for_children}
 
 abbrev pub rule_verdict : ℕ → Result ℕ HostFault
-rule_verdict n =
-    cond (n == 0) (Err (fault Empty 0))
-    (cond (nat_lt most_nodes n) (Err (fault TooMany 0))
-    (Ok n))
+rule_verdict n = count_verdict n 0
 
 -- the parent of a node other than the root
 abbrev pub parent_by : Shape → ℕ → ℕ

@@ -6,9 +6,11 @@ ghost use Rattle.trees.specs.declared.climb.ClimbRefusal.TheVariants.{NoTree};
 ghost use Rattle.trees.specs.Above.{depth_of, is_above};
 ghost use Rattle.trees.specs.Order.{Depths, Order};
 ghost use Rattle.trees.specs.Deepest.{Deepest, meet_of, meet_all};
+ghost use Rattle.trees.specs.Texts.{refusal_text, assembly_text};
 ghost use Rattle.trees.specs.Climbing.{first_missing, unless_missing, depth_answer, above_answer, meet_answer};
 
 use crate::host::{Host, HostFault};
+use std::fmt;
 
 // Why there is no answer about a node.
 #[derive(Clone, Copy, PartialEq, Eq, Debug)]
@@ -17,6 +19,17 @@ pub enum ClimbRefusal {
     NoTree(HostFault),
     // The first of the numbers asked about that is no node of the tree.
     NoSuchNode(u16),
+}
+
+impl fmt::Display for ClimbRefusal {
+    ghost output = { λ refusal. Some (refusal_text refusal) };
+
+    fn fmt<W: fmt::Write>(&self, f: &mut fmt::Formatter<W>) -> fmt::Result {
+        match self {
+            ClimbRefusal::NoTree(fault) => write!(f, "fault {fault}"),
+            ClimbRefusal::NoSuchNode(v) => write!(f, "no such node {v}"),
+        }
+    }
 }
 
 impl From<HostFault> for ClimbRefusal {
@@ -32,6 +45,15 @@ impl From<HostFault> for ClimbRefusal {
 pub struct Assembly {
     pub node: u16,
     pub depth: u16,
+}
+
+impl fmt::Display for Assembly {
+    ghost output = { λ assembly. Some (assembly_text assembly) };
+
+    fn fmt<W: fmt::Write>(&self, f: &mut fmt::Formatter<W>) -> fmt::Result {
+        let Assembly { node, depth } = *self;
+        write!(f, "{node} depth {depth}")
+    }
 }
 
 // A host that has a tree, and how many nodes the tree has.
@@ -59,7 +81,7 @@ impl<'a, H: Host> Climber<'a, H> {
         nodes.iter().copied().find(|v| *v >= count)
     }
 
-    // Refuses numbers of which one is no node.
+    // Refuses numbers of which one is no node. A match: `map_or` would put the answer before the refusal, and is no plainer.
     fn check(&self, nodes: &[u16]) -> Result<(), ClimbRefusal>
         ensures { result ≡ unless_missing (first_missing self.now.count nodes.now) tt }
     {

@@ -2,11 +2,13 @@
 ghost use Rattle.std.specs.Prelude.{◌≡◌, ℕ, Some, Ok, Option, Result};
 ghost use Rattle.trees.specs.Tree.{Tree};
 ghost use Rattle.trees.specs.Fault.{kind_number, fault_text, fault};
+ghost use Rattle.trees.specs.Host.{count_verdict};
 ghost use Rattle.trees.specs.declared.host.HostFault.{HostFault};
 
 use std::fmt;
 
-// The most nodes that a tree may have.
+// The most nodes that a tree may have. The most that weights may come to in `codes` is the same number, as a node's weight is a count of
+// nodes; neither crate stands on the other.
 pub const MOST_NODES: u16 = 32_767;
 
 // The kinds of fault.
@@ -51,6 +53,17 @@ impl FaultKind {
 pub struct HostFault {
     pub kind: FaultKind,
     pub place: usize,
+}
+
+// A count of nodes, where a tree may have so many, or else its fault: too many are told at a place that the host chooses.
+pub(crate) fn count_of_nodes(count: usize, place: usize) -> Result<u16, HostFault>
+    ensures { result ≡ count_verdict count place }
+{
+    match u16::try_from(count) {
+        Ok(0) => Err(FaultKind::Empty.at(0)),
+        Ok(nodes) if nodes <= MOST_NODES => Ok(nodes),
+        _ => Err(FaultKind::TooMany.at(place)),
+    }
 }
 
 impl fmt::Display for HostFault {

@@ -1,10 +1,10 @@
 // A tree given by the levels of an indented parts list: line v is node v.
-ghost use Rattle.std.specs.Prelude.{◌≡◌, ◌+◌, ◌-◌, ◌<◌, ◌≤◌, false, length, is_ok, None, ◌==◌, slice_index};
+ghost use Rattle.std.specs.Prelude.{◌≡◌, ◌+◌, ◌-◌, ◌<◌, ◌||◌, false, length, is_ok, None, ◌==◌, nat_lt, slice_index};
 ghost use Rattle.std.specs.Coded.{Coded-set};
-ghost use Rattle.trees.specs.Indented.{indented_verdict, indented_parent, nearest, misplaced, first_misplaced};
+ghost use Rattle.trees.specs.Indented.{indented_verdict, indented_parent, nearest, first_misplaced};
 ghost use Rattle.trees.specs.IndentedLaw.{indented_tree};
 
-use crate::host::{FaultKind, Host, HostFault, MOST_NODES};
+use crate::host::{FaultKind, Host, HostFault, MOST_NODES, count_of_nodes};
 
 // The levels of a parts list, one to a line, and the verdict on them.
 #[derive(Clone, Copy)]
@@ -24,54 +24,36 @@ impl<'a> IndentedHost<'a> {
     }
 }
 
-// Whether line v, which is not the first, has level 0 or a level more than one above that of the line before.
-fn is_misplaced(levels: &[u16], v: usize) -> bool
-    requires { (1 ≤ v) × (v < length levels.now) }
-    ensures { result ≡ misplaced levels.now v }
+// Whether a level that is not the first is 0, or above the level before it by more than one.
+fn is_misplaced(before: u16, level: u16) -> bool
+    ensures { result ≡ (level == 0 || nat_lt (before + 1) level) }
 {
-    let level = levels[v] as u32;
-    let before = levels[v - 1] as u32;
-    level == 0 || level > before + 1
+    level == 0 || level as u32 > before as u32 + 1
 }
 
-// The first such line.
+// The first line with such a level.
 fn misplaced_line(levels: &[u16]) -> Option<usize>
-    requires { 1 ≤ length levels.now }
     ensures { result ≡ first_misplaced levels.now (length levels.now - 1) }
 {
-    (1..levels.len()).find(
-        |v|
-            requires { (1 ≤ v.now) × (v.now < length levels.now) }
-        { is_misplaced(levels, *v) },
-    )
+    let before = levels
+        .array_windows::<2>()
+        .position(|[before, level]| is_misplaced(*before, *level))?;
+    Some(before + 1)
 }
 
 // The verdict on the levels of a list, in one pass.
 fn judge(levels: &[u16]) -> Result<u16, HostFault>
     ensures { result ≡ indented_verdict levels.now }
 {
-    let n = levels.len();
-    if n == 0 {
-        return Err(FaultKind::Empty.at(0));
-    }
-    if n > MOST_NODES as usize {
-        return Err(FaultKind::TooMany.at(MOST_NODES as usize));
-    }
+    let count = count_of_nodes(levels.len(), MOST_NODES as usize)?;
     if levels[0] != 0 {
         return Err(FaultKind::FirstLevel.at(0));
     }
+    // A match: `map_or` would put the count before the fault, and is no plainer.
     match misplaced_line(levels) {
         Some(v) => Err(FaultKind::Level.at(v)),
-        None => Ok(n as u16),
+        None => Ok(count),
     }
-}
-
-// Whether line u has a level one less than that of line v.
-fn is_one_less(levels: &[u16], u: u16, v: u16) -> bool
-    requires { (u < length levels.now) × (v < length levels.now) }
-    ensures { result ≡ (slice_index levels.now u + 1 == slice_index levels.now v) }
-{
-    levels[u as usize] as u32 + 1 == levels[v as usize] as u32
 }
 
 // The last line before line v whose level is one less.
@@ -79,11 +61,11 @@ fn line_above(levels: &[u16], v: u16) -> Option<u16>
     requires { v < length levels.now }
     ensures { result ≡ nearest levels.now (slice_index levels.now v) v }
 {
-    (0..v).rev().find(
-        |u|
-            requires { (u.now < length levels.now) × (v < length levels.now) }
-        { is_one_less(levels, *u, v) },
-    )
+    let wanted = levels[v as usize] as u32;
+    let above = levels[..v as usize]
+        .iter()
+        .rposition(|level| *level as u32 + 1 == wanted)?;
+    Some(above as u16)
 }
 
 impl<'a> Host for IndentedHost<'a> {
@@ -101,7 +83,8 @@ impl<'a> Host for IndentedHost<'a> {
         ensures value { result ≡ indented_parent self.now.levels.now v }
         ensures silent { is_ok (indented_verdict self.now.levels.now) ≡ false → result ≡ None }
     {
-        if self.verdict.is_err() || v as usize >= self.levels.len() {
+        let count = self.verdict.ok()?;
+        if v >= count {
             return None;
         }
         line_above(self.levels, v)

@@ -1,9 +1,9 @@
 // Trees that a rule gives.
-ghost use Rattle.std.specs.Prelude.{◌≡◌, false, is_ok, None, Some};
-ghost use Rattle.trees.specs.Rule.{rule_verdict, rule_parent, shape_name};
+ghost use Rattle.std.specs.Prelude.{◌≡◌, ◌≤◌, false, is_ok, None, Some};
+ghost use Rattle.trees.specs.Rule.{rule_verdict, parent_by, rule_parent, shape_name};
 ghost use Rattle.trees.specs.RuleLaw.{rule_tree};
 
-use crate::host::{FaultKind, Host, HostFault, MOST_NODES};
+use crate::host::{Host, HostFault, count_of_nodes};
 use std::fmt;
 
 #[derive(Clone, Copy, PartialEq, Eq, Debug)]
@@ -14,6 +14,20 @@ pub enum Shape {
     Star,
     // Nodes 2·u + 1 and 2·u + 2 are the children of node u.
     Binary,
+}
+
+impl Shape {
+    // The parent of a node other than the root.
+    fn parent_of(self, v: u16) -> u16
+        requires { 1 ≤ v }
+        ensures { result ≡ parent_by self v }
+    {
+        match self {
+            Shape::Chain => v - 1,
+            Shape::Star => 0,
+            Shape::Binary => (v - 1) / 2,
+        }
+    }
 }
 
 impl fmt::Display for Shape {
@@ -43,26 +57,17 @@ impl Host for RuleHost {
     ghost laws = { λ h. rule_tree h.shape h.count };
 
     fn verdict(&self) -> Result<u16, HostFault> {
-        if self.count == 0 {
-            return Err(FaultKind::Empty.at(0));
-        }
-        if self.count > MOST_NODES {
-            return Err(FaultKind::TooMany.at(0));
-        }
-        Ok(self.count)
+        count_of_nodes(self.count as usize, 0)
     }
 
     fn parent(&self, v: u16) -> Option<u16>
         ensures value { result ≡ rule_parent self.now.shape self.now.count v }
         ensures silent { is_ok (rule_verdict self.now.count) ≡ false → result ≡ None }
     {
-        if self.count > MOST_NODES || v == 0 || v >= self.count {
+        let count = self.verdict().ok()?;
+        if v == 0 || v >= count {
             return None;
         }
-        match self.shape {
-            Shape::Chain => Some(v - 1),
-            Shape::Star => Some(0),
-            Shape::Binary => Some((v - 1) / 2),
-        }
+        Some(self.shape.parent_of(v))
     }
 }

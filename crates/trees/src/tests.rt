@@ -87,6 +87,19 @@ fn shapes_have_names(rt: HostRuntime) -> Result<(), Fail> {
 }
 
 #[test]
+fn answers_of_climbing_have_words(rt: HostRuntime) -> Result<(), Fail> {
+    let assembly = Assembly { node: 1, depth: 2 };
+    let missing = ClimbRefusal::NoSuchNode(6);
+    let none = ClimbRefusal::NoTree(FaultKind::Level.at(3));
+    let printed = format!(in rt.alloc(); "{assembly}, {missing}, {none}")?;
+    assert_eq!(rt;
+        printed.as_str(),
+        "1 depth 2, no such node 6, fault kind 8 place 3"
+    );
+    Ok(())
+}
+
+#[test]
 fn the_longest_list(rt: HostRuntime) -> Result<(), Fail> {
     let mut levels = vec![in rt.alloc(); 1u16; 32_768]?;
     assert!(rt; levels.len() == 32_768);

@@ -1,15 +1,15 @@
-use Rattle.std.proofs.Common.{◌≡◌, suc, ◌-◌, length, true, false, arith, rules, tests}
-use Rattle.std.proofs.lemmas.Iterator.{first_from_Range}
+use Rattle.std.proofs.Common.{rules, ◌≡◌, suc, ◌-◌, ◌<◌, false, length, ℕ, sym, ◌∙◌}
 use Rattle.trees.specs.Indented.{misplaced}
-use Rattle.trees.proofs.Lines.{found_first}
+use Rattle.trees.proofs.Lines.{none_misplaced, first_found}
 use Rattle.trees.proofs.indented.misplaced_line.Goals as goal
+
+pub returns-in_err-before : goal.returns-in_err-before
+returns-in_err-before c =
+    let xs = c.args.levels.now in
+    let none : (k : ℕ) → k < length xs - 1 → misplaced xs (suc k) ≡ false = search rules in
+    c.from_residual.ensures ∙ sym (none_misplaced xs (length xs - 1) none)
 
 pub returns : goal.returns
 returns c =
     let xs = c.args.levels.now in
-    let n : suc (length xs - 1) ≡ length xs = omega arith in
-    found_first xs (length xs - 1) c.find.result
-    (rw n
-    (first_from_Range _ _ _ _ (λ v. misplaced xs v ≡ true) (λ v. misplaced xs v ≡ false) c.find.ensures.ran
-    (λ x q k. search (rules, tests))
-    (λ x q k. search (rules, tests))))
+    first_found xs (length xs - 1) c.in_ok-before.before (search rules) (search rules) (search rules)
