@@ -101,9 +101,6 @@ module _ (f : List ℕ → ℕ → Word) (up : List ℕ) (number : ℕ) where
   unfolding offset
   offset_is k = let a = offset_sum k in omega arith
 
-  pub offset_zero : 8 + 4 * length up ≡ row_offset f up number 0
-  offset_zero = let a = offset_is 0 in let b = ap length no_tags in omega arith
-
   pub offset_more : (v end size : ℕ) → end ≡ row_offset f up number v → size ≡ length (row_tag f up number v) → end + size ≡ row_offset f up number (v + 1)
   offset_more v end size e s =
       let a = offset_is v in
@@ -127,13 +124,12 @@ module _ (f : List ℕ → ℕ → Word) (up : List ℕ) (number : ℕ) where
       sym (append_assoc (two number ++ two (length up)) (flat_map four (map (offset (parents_in up) (length up) f number) (range_with_len 0 (length up + 1)))) (flat_map (tag (parents_in up) (length up) f number) (range_with_len 0 (length up)))
       ∙ append_assoc (two number) (two (length up)) (flat_map four (map (offset (parents_in up) (length up) f number) (range_with_len 0 (length up + 1))) ++ flat_map (tag (parents_in up) (length up) f number) (range_with_len 0 (length up))))
 
-  pub sheet_length : row_offset f up number (length up) ≡ length (row_sheet f up number)
-  sheet_length =
+  pub sheet_long : length (row_sheet f up number) ≡ 8 + 4 * length up + length (tags_to f up number (length up))
+  sheet_long =
       let s = ap length sheet_parts in
       let a = length-append ((two number ++ two (length up)) ++ offsets_to f up number (length up + 1)) (tags_to f up number (length up)) in
       let b = length-append (two number ++ two (length up)) (offsets_to f up number (length up + 1)) in
       let c = length_offsets (length up + 1) in
-      let d = offset_is (length up) in
       omega arith
 
   pub tags_longer : (n k : ℕ) → k ≤ n → length (tags_to f up number k) ≤ length (tags_to f up number n)
@@ -141,6 +137,9 @@ module _ (f : List ℕ → ℕ → Word) (up : List ℕ) (number : ℕ) where
 
   pub tags_sum : (v : ℕ) → length (tags_to f up number (v + 1)) ≡ length (tags_to f up number v) + length (row_tag f up number v)
   tags_sum v = ap (λ (bs : List ℕ). length bs) (tags_more v) ∙ length-append (tags_to f up number v) (row_tag f up number v)
+
+  pub tags_next : (v : ℕ) → v < length up → length (tags_to f up number v) + length (row_tag f up number v) ≤ length (tags_to f up number (length up))
+  tags_next v l = omega (arith, tags_sum v, tags_longer (length up) (v + 1) (omega arith))
 
   -- the sum of the sizes
   sizes_by : (k : ℕ) → sum_by (λ v. length (row_tag f up number v)) (range_with_len 0 k) ≡ length (tags_to f up number k)

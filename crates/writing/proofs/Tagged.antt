@@ -145,20 +145,13 @@ module _ (f : List ℕ → ℕ → Word) (up : List ℕ) (R : Rooted up) where
 
 -- ---- the length of a tag
 
-module _ (f : List ℕ → ℕ → Word) (up : List ℕ) (R : Rooted up) (v : ℕ) (l : v < length up) (k b : ℕ) (fields : k ≡ length (row_label f up v)) (many : b ≡ length (body_in (row_label f up v))) where
-  pub tag_length : (number : ℕ) → 4 + 3 * k + (b + 7) / 8 ≡ length (row_tag f up number v)
+module _ (f : List ℕ → ℕ → Word) (up : List ℕ) (R : Rooted up) (v : ℕ) (l : v < length up) where
+  pub tag_long : (number : ℕ) → length (row_tag f up number v) ≡ 4 + 3 * length (row_label f up v) + (length (body_in (row_label f up v)) + 7) / 8
   unfolding row_tag
-  tag_length number =
-      let a = tag_bytes_length number (row_label f up v) in
-      let d = twice_depths f up R v l in
-      let e : (b + 7) / 8 ≡ (length (body_in (row_label f up v)) + 7) / 8 = ap (λ (x : ℕ). (x + 7) / 8) many in
-      omega arith
+  tag_long number = omega (arith, tag_bytes_length number (row_label f up v), twice_depths f up R v l)
 
-  pub tag_small : Lawful f → 4 + 3 * k + (b + 7) / 8 ≤ most_tag_bytes
-  tag_small L =
-      let a = few_fields up R f v l in
-      let c = few_bits up R f L v l in
-      omega arith
+  pub tag_small : Lawful f → 4 + 3 * length (row_label f up v) + (length (body_in (row_label f up v)) + 7) / 8 ≤ most_tag_bytes
+  tag_small L = omega (arith, few_fields up R f v l, few_bits up R f L v l)
 
 -- ---- a label that is written but for its path field
 

@@ -1,5 +1,5 @@
 -- The tag of a node, by the row of parents.
-use Rattle.std.specs.Prelude.{◌≡◌, ℕ, ◌+◌, ◌/◌, ◌<◌, ◌≤◌, List, [], ◌∷◌, ◌++◌, length}
+use Rattle.std.specs.Prelude.{◌≡◌, ℕ, ◌<◌, ◌≤◌, List, [], ◌∷◌, ◌++◌, length}
 use Rattle.trees.specs.Above.{depth_of}
 use Rattle.codes.specs.declared.word.Word.{Word}
 use Rattle.codes.specs.Words.{bits}
@@ -15,10 +15,6 @@ ends_at l = ends_from 0 (words_in l)
 -- the tag of v under the words f and a tree number
 unfoldable pub row_tag : (List ℕ → ℕ → Word) → List ℕ → ℕ → ℕ → List ℕ
 row_tag f up number v = tag_bytes number (row_label f up v)
-
--- how many bytes hold the body of a label
-abbrev pub body_bytes : Label → ℕ
-body_bytes l = (length (body_in l) + 7) / 8
 
 -- the path field that the label of v ends with
 abbrev pub last_field : (List ℕ → ℕ → Word) → List ℕ → ℕ → Field

@@ -10,6 +10,7 @@ use formats::layout::BYTE_BITS;
 const HIGH_BIT: u8 = 128;
 
 // Sets a bit that is not set.
+#[tactic(auto, using(crate::proofs::Packing::set_at_bit))]
 fn set_bit(out: &mut [u8], j: usize)
     requires room { j < 8 * length out.old }
     requires clear { slice_index_or (unpacked out.old) j false ≡ false }
@@ -19,6 +20,7 @@ fn set_bit(out: &mut [u8], j: usize)
 }
 
 // Writes the bits of a word from the bit `at` on, where all is clear.
+#[tactic(auto, using(crate::proofs::Packing::next_clear, crate::proofs::Packing::length_unpacked, crate::proofs::Puts::wrote_nil))]
 pub fn put_word(out: &mut [u8], at: usize, word: Word)
     requires room { at + word.len ≤ 8 * length out.old }
     requires short { word.len ≤ 32 }

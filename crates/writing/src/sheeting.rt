@@ -27,6 +27,7 @@ pub fn measure<C: Code>(m: &Marks<C>) -> usize
 }
 
 // Where each tag begins and where the last one ends, and the tags of all nodes.
+#[tactic(auto, using(crate::proofs::Sheeted::tags_next))]
 fn put_nodes<C: Code>(m: &Marks<C>, number: u16, offsets: &mut [u8], tags: &mut [u8])
     requires offsets_room { 4 * (length m.now.up.row.now + 1) ≤ length offsets.old }
     requires tags_room { length (tags_to (C.words m.now.code.now) m.now.up.row.now number (length m.now.up.row.now)) ≤ length tags.old }
@@ -54,6 +55,7 @@ fn put_nodes<C: Code>(m: &Marks<C>, number: u16, offsets: &mut [u8], tags: &mut 
 }
 
 // The sheet.
+#[tactic(auto, using(crate::proofs::Sheeted::sheet_long))]
 pub fn put_sheet<C: Code>(m: &Marks<C>, number: u16, out: &mut [u8])
     requires { length (row_sheet (C.words m.now.code.now) m.now.up.row.now number) ≤ length out.old }
     ensures { Wrote 0 (row_sheet (C.words m.now.code.now) m.now.up.row.now number) out.old out.new }

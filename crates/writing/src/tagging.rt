@@ -45,6 +45,7 @@ fn word_at(rows: &WordRows, i: usize) -> Word
 }
 
 // The path word of a node.
+#[tactic(auto, using(rows::proofs::Labelled::path_short))]
 fn path_word<C: Code>(m: &Marks<C>, v: usize) -> Word
     requires { v < length m.now.up.row.now }
     ensures is { result ≡ path_word (parents_in m.now.up.row.now) (length m.now.up.row.now) (C.words m.now.code.now) v }
@@ -54,6 +55,7 @@ fn path_word<C: Code>(m: &Marks<C>, v: usize) -> Word
 }
 
 // The turn that leads to the path of a node, and none on the root's path.
+#[tactic(auto, using(crate::proofs::Tagged::straight, crate::proofs::Tagged::t_in))]
 fn turn_at<C: Code>(m: &Marks<C>, v: usize) -> Option<Turn>
     requires { v < length m.now.up.row.now }
     ensures { MatchOption result (Straight (C.words m.now.code.now) m.now.up.row.now v) (λ turn. Turned (C.words m.now.code.now) m.now.up.row.now v turn.above turn.word) }
@@ -69,6 +71,7 @@ fn turn_at<C: Code>(m: &Marks<C>, v: usize) -> Option<Turn>
 }
 
 // The label of a node: where its words end, the depths at its path fields, and the bits of its words, these into clear bytes.
+#[tactic(auto, using(crate::proofs::Tagged::some_field, crate::proofs::Tagged::last_inside, crate::proofs::Tagged::turned_bits))]
 fn put_label<C: Code>(m: &Marks<C>, v: usize, ends: &mut [u8], depths: &mut [u8], body: &mut [u8])
     requires inside { v < length m.now.up.row.now }
     requires ends_room { 2 * length (row_label (C.words m.now.code.now) m.now.up.row.now v) ≤ length ends.old }
@@ -95,6 +98,7 @@ fn put_label<C: Code>(m: &Marks<C>, v: usize, ends: &mut [u8], depths: &mut [u8]
 }
 
 // How many bytes a tag has.
+#[tactic(auto, using(crate::proofs::Tagged::tag_long, crate::proofs::Tagged::tag_small))]
 pub fn tag_size<C: Code>(m: &Marks<C>, v: usize) -> usize
     requires { v < length m.now.up.row.now }
     ensures is { (number : ℕ) → result ≡ length (row_tag (C.words m.now.code.now) m.now.up.row.now number v) }
@@ -105,6 +109,7 @@ pub fn tag_size<C: Code>(m: &Marks<C>, v: usize) -> usize
 }
 
 // The tag of a node, over all of an output.
+#[tactic(auto, using(crate::proofs::Tagged::tag_long, rows::proofs::Labelled::few_fields, rows::proofs::Labelled::few_bits))]
 pub fn put_tag<C: Code>(m: &Marks<C>, number: u16, v: usize, out: &mut [u8])
     requires inside { v < length m.now.up.row.now }
     requires room { length out.old ≡ length (row_tag (C.words m.now.code.now) m.now.up.row.now number v) }

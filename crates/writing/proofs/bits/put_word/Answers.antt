@@ -9,12 +9,6 @@ use Rattle.writing.proofs.Packing.{length_unpacked, length_digits, bit_more, nex
 use Rattle.writing.proofs.bits.put_word.Goals as goal
 use Rattle.writing.proofs.bits.put_word.Goals.{then-word-i-eq1, else-word-i-eq1}
 
-pub loop-i-init : goal.loop-i-init
-loop-i-init c = wrote_nil c.args.at (unpacked c.args.out.now) (omega (arith, length_unpacked c.args.out.now, c.requires.room))
-
-pub set_bit-requires-clause-clear : goal.set_bit-requires-clause-clear
-set_bit-requires-clause-clear c = next_clear c.args.at c.args.word.value c.args.word.len c.loop-i.i c.loop-i.invariant (omega arith) c.requires.clear
-
 pub loop-i-preserved : goal.loop-i-preserved
 loop-i-preserved c =
     let w = c.args.word in

@@ -4,8 +4,8 @@ use Rattle.std.proofs.lemmas.Iterator.Consumers.{YieldsList-at, fits_from_yields
 use Rattle.formats.specs.Limits.{most_tag_bytes}
 use Rattle.writing.specs.Tags.{row_tag}
 use Rattle.writing.specs.Sheets.{tags_to}
-use Rattle.writing.proofs.Tagged.{tag_length, tag_small}
-use Rattle.writing.proofs.Sheeted.{offset_is, sheet_length, sizes_sum, sizes_small}
+use Rattle.writing.proofs.Tagged.{tag_long, tag_small}
+use Rattle.writing.proofs.Sheeted.{sheet_long, sizes_sum, sizes_small}
 use Rattle.writing.proofs.sheeting.measure.Goals as goal
 use Rattle.writing.proofs.sheeting.measure.Goals.{Start, After-sum}
 
@@ -16,7 +16,7 @@ small g c =
     let f = g.C.Code.words m.code.now in
     let up = m.up.row.now in
     sizes_small f up 0
-    (λ v l. omega (arith, tag_length f up m.up.rooted v l _ _ (m.numbered v l) (m.counted v l) 0, tag_small f up m.up.rooted v l _ _ (m.numbered v l) (m.counted v l) (g.C.Code.laws m.code.now)))
+    (λ v l. omega (arith, tag_long f up m.up.rooted v l 0, tag_small f up m.up.rooted v l (g.C.Code.laws m.code.now)))
     (length up) (omega arith)
 
 pub sum-requires-clause-fits : goal.sum-requires-clause-fits
@@ -48,4 +48,4 @@ pub returns : goal.returns
 returns g c number =
     let f = g.C.Code.words c.args.m.now.code.now in
     let up = c.args.m.now.up.row.now in
-    omega (arith, total g c number, offset_is f up number (length up), sheet_length f up number, c.header.ensures)
+    omega (arith, total g c number, sheet_long f up number, c.header.ensures)

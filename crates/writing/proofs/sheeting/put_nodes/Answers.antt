@@ -19,17 +19,6 @@ loop-v-init g c =
       tags = subst (λ (ws : List ℕ). Wrote 0 ws tags tags) (sym (no_tags f up c.args.number)) (wrote_nil 0 tags (omega arith));
     }
 
-pub slice_bounds-put_tag-end : goal.slice_bounds-put_tag-end
-slice_bounds-put_tag-end g c =
-    let f = g.C.Code.words c.args.m.now.code.now in
-    let up = c.args.m.now.up.row.now in
-    let sum = tags_sum f up c.args.number c.loop-v.v in
-    let longer = tags_longer f up c.args.number (length up) (c.loop-v.v + 1) (omega arith) in
-    let size = c.tag_size-end.ensures.is c.args.number in
-    let room = c.requires.tags_room in
-    let before = c.loop-v.invariant.sum in
-    omega arith
-
 pub loop-v-preserved : goal.loop-v-preserved
 loop-v-preserved g c =
     let f = g.C.Code.words c.args.m.now.code.now in

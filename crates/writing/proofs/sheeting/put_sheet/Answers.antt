@@ -3,22 +3,8 @@ use Rattle.formats.specs.Models.{two}
 use Rattle.writing.specs.Writes.{Wrote}
 use Rattle.writing.specs.Sheets.{offsets_to, tags_to}
 use Rattle.writing.proofs.Puts.{then, wrote_two, wrote_all, wrote_both}
-use Rattle.writing.proofs.Sheeted.{offset_is, sheet_length, sheet_parts, length_offsets}
+use Rattle.writing.proofs.Sheeted.{sheet_long, sheet_parts, length_offsets}
 use Rattle.writing.proofs.sheeting.put_sheet.Goals as goal
-
-pub split_at_mut-head-requires : goal.split_at_mut-head-requires
-split_at_mut-head-requires g c =
-    let f = g.C.Code.words c.args.m.now.code.now in
-    let up = c.args.m.now.up.row.now in
-    omega (arith, sheet_length f up c.args.number, offset_is f up c.args.number (length up), c.requires, c.header.ensures)
-
-pub put_nodes-requires : goal.put_nodes-requires
-put_nodes-requires g c =
-    let f = g.C.Code.words c.args.m.now.code.now in
-    let up = c.args.m.now.up.row.now in
-    let long = sheet_length f up c.args.number in
-    let last = offset_is f up c.args.number (length up) in
-    record { offsets_room = omega (arith, c.requires, c.header.ensures); tags_room = omega (arith, c.requires, c.header.ensures) }
 
 pub returns : goal.returns
 returns g c =
@@ -29,6 +15,7 @@ returns g c =
     let offsets = offsets_to f up c.args.number (n + 1) in
     let tags = tags_to f up c.args.number n in
     let many = length_offsets f up c.args.number (n + 1) in
+    let long = sheet_long f up c.args.number in
     let header = c.header.ensures in
     let front : c.put-2.new.out ≡ two c.args.number ++ two n =
     wrote_all (then (wrote_two c.args.number (omega arith) c.to_le_bytes.ensures c.put.ensures) (wrote_two n (omega arith) c.to_le_bytes-2.ensures c.put-2.ensures) (omega arith)) (omega arith) in

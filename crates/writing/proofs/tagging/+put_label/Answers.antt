@@ -16,36 +16,13 @@ use Rattle.writing.proofs.Tagged.{Begun, begun_none, begun_turned, length_ends, 
 use Rattle.writing.proofs.tagging.+put_label.Goals as goal
 use Rattle.writing.proofs.tagging.+put_label.Goals.{in-Some, in_default, In-Some, Joined-turn_at}
 
-pub overflow_sub-last : goal.overflow_sub-last
-overflow_sub-last g t c =
-    let m = c.args.m.now in
-    omega (arith, some_field (g.C.Code.words m.code.now) m.up.row.now m.up.rooted c.args.v c.requires.inside, m.numbered c.args.v c.requires.inside)
-
-pub overflow_sub-begin : goal.overflow_sub-begin
-overflow_sub-begin g t c =
-    let m = c.args.m.now in
-    let n = ap (λ w. w.len) c.path_word-word.ensures.is in
-    omega (arith, last_inside (g.C.Code.words m.code.now) m.up.row.now m.up.rooted c.args.v c.requires.inside, m.counted c.args.v c.requires.inside)
-
-pub overflow_sub-begin-in-Some : goal.overflow_sub-begin-in-Some
-overflow_sub-begin-in-Some g t c =
-    let m = c.args.m.now in
-    let n = ap (λ w. w.len) c.path_word-word.ensures.is in
-    let b = turned_bits (g.C.Code.words m.code.now) m.up.row.now m.up.rooted c.args.v c.requires.inside c.in-Some.turn.above c.in-Some.turn.word c.in-Some.ensures in
-    omega (arith, m.counted c.args.v c.requires.inside)
-
-pub put_word-requires : goal.put_word-requires
-put_word-requires g t c =
+pub put_word-requires-clause-clear : goal.put_word-requires-clause-clear
+put_word-requires-clause-clear g t c =
     let m = c.args.m.now in
     let n = ap (λ w. w.len) c.path_word-word.ensures.is in
     let b = turned_bits (g.C.Code.words m.code.now) m.up.row.now m.up.rooted c.args.v c.requires.inside c.in-Some.turn.above c.in-Some.turn.word c.in-Some.ensures in
     let k = m.counted c.args.v c.requires.inside in
-    record {
-      room = omega arith;
-      short = c.in-Some.ensures.short;
-      long = omega arith;
-      clear = λ j h. getD_past_write c.put_label.ensures.body j false (omega arith) ∙ c.requires.clear j;
-    }
+    λ j h. getD_past_write c.put_label.ensures.body j false (omega arith) ∙ c.requires.clear j
 
 begun : (g : _) (t : ℕ) (c : Joined-turn_at g t) → Begun (g.C.Code.words c.args.m.now.code.now) c.args.m.now.up.row.now c.args.v c.args.ends.now c.args.depths.now c.args.body.now c.match-turn_at.ends c.match-turn_at.depths c.match-turn_at.body
 begun g t c =
@@ -71,25 +48,14 @@ begun g t c =
       | in_default w ↦ rw (w.ends-is, w.depths-is, w.body-is) (begun_none f up v c.args.ends.now c.args.depths.now c.args.body.now w.in_default.ensures)
     ]
 
-pub put-requires-3 : goal.put-requires-3
-put-requires-3 g t c =
+pub put_word-requires-2-clause-clear : goal.put_word-requires-2-clause-clear
+put_word-requires-2-clause-clear g t c =
     let m = c.args.m.now in
-    omega (arith, ap (λ (xs : List ℕ). length xs) c.to_le_bytes-3.ensures, m.numbered c.args.v c.requires.inside, some_field (g.C.Code.words m.code.now) m.up.row.now m.up.rooted c.args.v c.requires.inside)
-
-pub put_word-requires-2 : goal.put_word-requires-2
-put_word-requires-2 g t c =
-    let m = c.args.m.now in
-    let f = g.C.Code.words m.code.now in
-    let b = begun g t (goal.at.put_word-requires-2 g t c).Joined-turn_at in
+    let b = begun g t (goal.at.put_word-requires-2-clause-clear g t c).Joined-turn_at in
     let n = ap (λ w. w.len) c.path_word-word.ensures.is in
-    let fits = front_bits f m.up.row.now m.up.rooted c.args.v c.requires.inside b.front b.label in
+    let fits = front_bits (g.C.Code.words m.code.now) m.up.row.now m.up.rooted c.args.v c.requires.inside b.front b.label in
     let k = m.counted c.args.v c.requires.inside in
-    record {
-      room = omega arith;
-      short = c.path_word-word.ensures.short;
-      long = omega arith;
-      clear = λ j h. getD_past_write b.body j false (omega arith) ∙ c.requires.clear j;
-    }
+    λ j h. getD_past_write b.body j false (omega arith) ∙ c.requires.clear j
 
 pub returns : goal.returns
 returns g t c =

@@ -11,45 +11,11 @@ use Rattle.writing.specs.Tags.{ends_at, row_tag}
 use Rattle.writing.specs.Bits.{unpacked}
 use Rattle.writing.proofs.Puts.{then, wrote_two, wrote_set, wrote_all}
 use Rattle.writing.proofs.Packing.{after_fits, over_clear, packs, zero_bits}
-use Rattle.writing.proofs.Tagged.{length_ends, twice_depths, tag_length, tag_parts}
+use Rattle.writing.proofs.Tagged.{length_ends, twice_depths, tag_long, tag_parts}
 use Rattle.writing.proofs.tagging.put_tag.Goals as goal
 
-pub split_at_mut-head-requires : goal.split_at_mut-head-requires
-split_at_mut-head-requires g c =
-    let m = c.args.m.now in
-    omega (arith, tag_length (g.C.Code.words m.code.now) m.up.row.now m.up.rooted c.args.v c.requires.inside _ _ (m.numbered c.args.v c.requires.inside) (m.counted c.args.v c.requires.inside) c.args.number, c.requires.room)
-
-pub split_at_mut-ends-requires : goal.split_at_mut-ends-requires
-split_at_mut-ends-requires g c =
-    let m = c.args.m.now in
-    omega (arith, tag_length (g.C.Code.words m.code.now) m.up.row.now m.up.rooted c.args.v c.requires.inside _ _ (m.numbered c.args.v c.requires.inside) (m.counted c.args.v c.requires.inside) c.args.number, c.requires.room)
-
-pub split_at_mut-depths-requires : goal.split_at_mut-depths-requires
-split_at_mut-depths-requires g c =
-    let m = c.args.m.now in
-    omega (arith, tag_length (g.C.Code.words m.code.now) m.up.row.now m.up.rooted c.args.v c.requires.inside _ _ (m.numbered c.args.v c.requires.inside) (m.counted c.args.v c.requires.inside) c.args.number, c.requires.room)
-
-pub overflow_cast-head : goal.overflow_cast-head
-overflow_cast-head g c =
-    let m = c.args.m.now in
-    omega (arith, few_fields m.up.row.now m.up.rooted (g.C.Code.words m.code.now) c.args.v c.requires.inside, m.numbered c.args.v c.requires.inside)
-
-pub put_label-requires : goal.put_label-requires
-put_label-requires g c =
-    let m = c.args.m.now in
-    let f = g.C.Code.words m.code.now in
-    let k = m.numbered c.args.v c.requires.inside in
-    let b = m.counted c.args.v c.requires.inside in
-    let long = tag_length f m.up.row.now m.up.rooted c.args.v c.requires.inside _ _ k b c.args.number in
-    let most = few_bits m.up.row.now m.up.rooted f (g.C.Code.laws m.code.now) c.args.v c.requires.inside in
-    record {
-      inside = c.requires.inside;
-      ends_room = omega (arith, c.requires.room);
-      depths_room = omega (arith, c.requires.room);
-      body_room = omega (arith, c.requires.room);
-      long = omega (arith, c.requires.room);
-      clear = zero_bits c.fill.new.self (λ i h. search rules);
-    }
+pub put_label-requires-clause-clear : goal.put_label-requires-clause-clear
+put_label-requires-clause-clear g c = zero_bits c.fill.new.self (λ i h. search rules)
 
 pub returns : goal.returns
 unfolding row_tag
@@ -60,7 +26,7 @@ returns g c =
     let l = row_label f up c.args.v in
     let k = m.numbered c.args.v c.requires.inside in
     let b = m.counted c.args.v c.requires.inside in
-    let long = tag_length f up m.up.rooted c.args.v c.requires.inside _ _ k b c.args.number in
+    let long = tag_long f up m.up.rooted c.args.v c.requires.inside c.args.number in
     let twice = twice_depths f up m.up.rooted c.args.v c.requires.inside in
     let long_ends = length_two (ends_at l) in
     let many_ends = length_ends l in

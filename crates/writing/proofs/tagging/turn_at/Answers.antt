@@ -6,26 +6,13 @@ use Rattle.rows.proofs.Labelled.{branch_short}
 use Rattle.writing.proofs.Tagged.{straight, t_in, light, turned, held_same}
 use Rattle.writing.proofs.tagging.turn_at.Goals as goal
 
-pub bounds-m-top : goal.bounds-m-top
-bounds-m-top g c =
-    let m = c.args.m.now in
-    (t_in (g.C.Code.words m.code.now) m.up.row.now m.up.rooted c.args.v c.requires (at m.top.now c.args.v) (m.topped c.args.v c.requires) c.if-top-eq0.false).1
-
-pub word_at-requires : goal.word_at-requires
-word_at-requires g c =
+pub word_at-requires-clause-short : goal.word_at-requires-clause-short
+word_at-requires-clause-short g c =
     let m = c.args.m.now in
     let f = g.C.Code.words m.code.now in
     let t = at m.top.now c.args.v in
     let l = light f m.up.row.now m.up.rooted c.args.v c.requires t (m.topped c.args.v c.requires) c.if-top-eq0.false in
-    let held = (m.branches (at m.up.row.now t) t l).1 in
-    let short = (branch_short m.up.row.now m.up.rooted f (g.C.Code.laws m.code.now) (at m.up.row.now t) t l).most_bits in
-    let inside = t_in f m.up.row.now m.up.rooted c.args.v c.requires t (m.topped c.args.v c.requires) c.if-top-eq0.false in
-    record { high = omega (arith, m.bhs); low = omega (arith, m.bls); len = omega (arith, m.bns); short = omega arith }
-
-pub returns-then-top-eq0 : goal.returns-then-top-eq0
-returns-then-top-eq0 g c =
-    let m = c.args.m.now in
-    straight (g.C.Code.words m.code.now) m.up.row.now m.up.rooted c.args.v c.requires (sym (m.topped c.args.v c.requires) ∙ c.if-top-eq0.true)
+    omega (arith, (m.branches (at m.up.row.now t) t l).1, (branch_short m.up.row.now m.up.rooted f (g.C.Code.laws m.code.now) (at m.up.row.now t) t l).most_bits)
 
 pub returns : goal.returns
 returns g c =
