@@ -23,28 +23,17 @@ fn fill_marks<'a, C: Code>(
     requires deep { length depth.old ≡ length words.up.row.now }
     requires bitses { length bits.old ≡ length words.up.row.now }
     requires fieldses { length fields.old ≡ length words.up.row.now }
-    ensures code { result.code.now ≡ words.entry.code.now }
-    ensures up { result.up.row.now ≡ words.entry.up.row.now }
+    ensures code { result.words.code.now ≡ words.entry.code.now }
+    ensures up { result.words.up.row.now ≡ words.entry.up.row.now }
 {
     let up = words.up;
     depths(&up, depth);
     counts(&words, bits, fields);
-    let TreeWords {
-        code,
-        top,
-        path,
-        branch,
-        ..
-    } = words;
     Marks {
-        code,
-        up,
-        top,
+        words,
         depth,
         bits,
         fields,
-        path,
-        branch,
     }
 }
 
@@ -52,9 +41,9 @@ fn fill_marks<'a, C: Code>(
 // links and then that of the path tops, and the rows of links, of a list and of sizes become those of depths, body bits and field counts.
 pub fn fill<'a, H: Host, C: Code>(host: &H, code: &'a C, rows: Rows<'a>) -> Marks<'a, C>
     requires tree { H.verdicts host.now ≡ Ok (length rows.parent.now) }
-    ensures same { result.code.now ≡ code.now }
-    ensures many { length result.up.row.now ≡ length rows.entry.parent.now }
-    ensures held { parents_in result.up.row.now ≡ H.parents host.now }
+    ensures same { result.words.code.now ≡ code.now }
+    ensures many { length result.words.up.row.now ≡ length rows.entry.parent.now }
+    ensures held { parents_in result.words.up.row.now ≡ H.parents host.now }
 {
     let Rows {
         parent,

@@ -54,9 +54,9 @@ impl From<HostFault> for PressRefusal {
 
 // Measures the sheet, and writes it if its labels can be held and there is room.
 fn finish<C: Code>(marks: &Marks<C>, number: u16, out: &mut [u8]) -> Result<usize, PressRefusal>
-    ensures told { result ≡ press_answer (measured (parents_in marks.now.up.row.now) (C.words marks.now.code.now) number (length marks.now.up.row.now) (length out.old)) }
+    ensures told { result ≡ press_answer (measured (parents_in marks.now.words.up.row.now) (C.words marks.now.words.code.now) number (length marks.now.words.up.row.now) (length out.old)) }
     ensures late { (e : PressRefusal) → result ≡ Err e → press_number e ≤ 3 → ⊥ }
-    ensures written { out.new ≡ press_output (measured (parents_in marks.now.up.row.now) (C.words marks.now.code.now) number (length marks.now.up.row.now) (length out.old)) out.old }
+    ensures written { out.new ≡ press_output (measured (parents_in marks.now.words.up.row.now) (C.words marks.now.words.code.now) number (length marks.now.words.up.row.now) (length out.old)) out.old }
 {
     if !few_fields(marks) {
         return Err(PressRefusal::TooManyFields);

@@ -13,28 +13,28 @@ use rows::finished::Marks;
 
 // Whether each label has no more fields than a tag can hold.
 pub fn few_fields<C: Code>(m: &Marks<C>) -> bool
-    ensures { result ≡ row_few (C.words m.now.code.now) m.now.up.row.now }
+    ensures { result ≡ row_few (C.words m.now.words.code.now) m.now.words.up.row.now }
 {
     m.fields.iter().all(|k| *k <= MOST_FIELDS as u16)
 }
 
 // How many bytes a sheet has.
 pub fn measure<C: Code>(m: &Marks<C>) -> usize
-    ensures { (number : ℕ) → result ≡ length (row_sheet (C.words m.now.code.now) m.now.up.row.now number) }
+    ensures { (number : ℕ) → result ≡ length (row_sheet (C.words m.now.words.code.now) m.now.words.up.row.now number) }
 {
-    let n = m.up.row.len();
+    let n = m.words.up.row.len();
     header(n as u16) + (0..n).map(|v| tag_size(m, v)).sum::<usize>()
 }
 
 // Where each tag begins and where the last one ends, and the tags of all nodes.
 #[tactic(auto, using(crate::proofs::Sheeted::tags_next))]
 fn put_nodes<C: Code>(m: &Marks<C>, number: u16, offsets: &mut [u8], tags: &mut [u8])
-    requires offsets_room { 4 * (length m.now.up.row.now + 1) ≤ length offsets.old }
-    requires tags_room { length (tags_to (C.words m.now.code.now) m.now.up.row.now number (length m.now.up.row.now)) ≤ length tags.old }
-    ensures offsets { Wrote 0 (offsets_to (C.words m.now.code.now) m.now.up.row.now number (length m.now.up.row.now + 1)) offsets.old offsets.new }
-    ensures tags { Wrote 0 (tags_to (C.words m.now.code.now) m.now.up.row.now number (length m.now.up.row.now)) tags.old tags.new }
+    requires offsets_room { 4 * (length m.now.words.up.row.now + 1) ≤ length offsets.old }
+    requires tags_room { length (tags_to (C.words m.now.words.code.now) m.now.words.up.row.now number (length m.now.words.up.row.now)) ≤ length tags.old }
+    ensures offsets { Wrote 0 (offsets_to (C.words m.now.words.code.now) m.now.words.up.row.now number (length m.now.words.up.row.now + 1)) offsets.old offsets.new }
+    ensures tags { Wrote 0 (tags_to (C.words m.now.words.code.now) m.now.words.up.row.now number (length m.now.words.up.row.now)) tags.old tags.new }
 {
-    let n = m.up.row.len();
+    let n = m.words.up.row.len();
     let first = header(n as u16);
     let mut end = 0;
     for v in 0..n {
@@ -57,10 +57,10 @@ fn put_nodes<C: Code>(m: &Marks<C>, number: u16, offsets: &mut [u8], tags: &mut 
 // The sheet.
 #[tactic(auto, using(crate::proofs::Sheeted::sheet_long))]
 pub fn put_sheet<C: Code>(m: &Marks<C>, number: u16, out: &mut [u8])
-    requires { length (row_sheet (C.words m.now.code.now) m.now.up.row.now number) ≤ length out.old }
-    ensures { Wrote 0 (row_sheet (C.words m.now.code.now) m.now.up.row.now number) out.old out.new }
+    requires { length (row_sheet (C.words m.now.words.code.now) m.now.words.up.row.now number) ≤ length out.old }
+    ensures { Wrote 0 (row_sheet (C.words m.now.words.code.now) m.now.words.up.row.now number) out.old out.new }
 {
-    let n = m.up.row.len() as u16;
+    let n = m.words.up.row.len() as u16;
     let (head, tags) = out.split_at_mut(header(n));
     let (numbers, offsets) = head.split_at_mut(OFFSETS_AT);
     put(numbers, NUMBER_AT, &number.to_le_bytes());

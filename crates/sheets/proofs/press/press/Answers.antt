@@ -13,8 +13,8 @@ returns-clause-keeps g c =
     let room = length c.args.out.now in
     let held = c.fill-marks.ensures.held in
     let code = c.fill-marks.ensures.same in
-    let many : length marks.up.row.now ≡ n = omega arith in
-    let same : measured (parents_in marks.up.row.now) (words marks.code.now) c.args.number (length marks.up.row.now) room ≡ measured parent (words c.args.code.now) c.args.number n room =
+    let many : length marks.words.up.row.now ≡ n = omega arith in
+    let same : measured (parents_in marks.words.up.row.now) (words marks.words.code.now) c.args.number (length marks.words.up.row.now) room ≡ measured parent (words c.args.code.now) c.args.number n room =
     λ i. measured (held i) (words (code i)) c.args.number (many i) room in
     let e : g.H.Host.verdicts c.args.host.now ≡ Ok n = sym c.in_ok-n.ensures in
     kept parent (words c.args.code.now) c.args.number n room (g.H.Host.verdicts c.args.host.now) c.args.out.now c.finish.new.out c.finish.result e

@@ -21,13 +21,13 @@ pub returns : goal.returns
 unfolding row_tag
 returns g c =
     let m = c.args.m.now in
-    let f = g.C.Code.words m.code.now in
-    let up = m.up.row.now in
+    let f = g.C.Code.words m.words.code.now in
+    let up = m.words.up.row.now in
     let l = row_label f up c.args.v in
     let k = m.numbered c.args.v c.requires.inside in
     let b = m.counted c.args.v c.requires.inside in
-    let long = tag_long f up m.up.rooted c.args.v c.requires.inside c.args.number in
-    let twice = twice_depths f up m.up.rooted c.args.v c.requires.inside in
+    let long = tag_long f up m.words.up.rooted c.args.v c.requires.inside c.args.number in
+    let twice = twice_depths f up m.words.up.rooted c.args.v c.requires.inside in
     let long_ends = length_two (ends_at l) in
     let many_ends = length_ends l in
     let long_depths = length_two (depths_in l) in
