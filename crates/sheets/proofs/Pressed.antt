@@ -1,12 +1,10 @@
 -- The answers of the press, test by test.
-use Rattle.std.proofs.Common.{◌≡◌, ℕ, ◌*◌, ◌<◌, ◌≤◌, true, false, List, ◌++◌, length, drop, Ok, Err, Option, Result, refl, ap, ◌∙◌, arith}
-use Rattle.std.proofs.lemmas.Bool.{lt-ltb, le-ltb, ne_eqb}
-use Rattle.trees.specs.declared.host.HostFault.{HostFault}
+use Rattle.std.proofs.Common.{◌≡◌, ℕ, ◌≤◌, true, List, ◌++◌, length, drop, Ok, Option, refl, ap, ◌∙◌, arith}
+use Rattle.std.proofs.lemmas.Bool.{le-ltb}
 use Rattle.codes.specs.declared.word.Word.{Word}
 use Rattle.labels.specs.Sheet.{sheet}
 use Rattle.writing.specs.Writes.{Wrote, put}
-use Rattle.sheets.specs.declared.press.PressRefusal.TheVariants.{NumberZero, NoTree, WorkTooShort, TooManyFields, OutputTooShort}
-use Rattle.sheets.specs.Pressing.{few_enough, measured, pressed}
+use Rattle.sheets.specs.Pressing.{few_enough, measured}
 
 -- a write at the front
 pub at_front : {bs xs ys : List ℕ} → Wrote 0 bs xs ys → ys ≡ bs ++ drop (length bs) xs

@@ -3,7 +3,7 @@ use Rattle.std.specs.Prelude.{◌≡◌, ℕ, ◌<◌, ◌≤◌, List, [], ◌�
 use Rattle.trees.specs.Above.{depth_of}
 use Rattle.codes.specs.declared.word.Word.{Word}
 use Rattle.codes.specs.Words.{bits}
-use Rattle.formats.specs.Label.{Label, Field, path, branch, words_in, body_in}
+use Rattle.formats.specs.Label.{Label, Field, path, branch, words_in}
 use Rattle.formats.specs.Models.{ends_from, tag_bytes}
 use Rattle.labels.specs.Labels.{path_word}
 use Rattle.rows.specs.Rows.{parents_in, row_label}

@@ -37,6 +37,7 @@ fn put_nodes<C: Code>(m: &Marks<C>, number: u16, offsets: &mut [u8], tags: &mut 
     let n = m.words.up.row.len();
     let first = header(n as u16);
     let mut end = 0;
+    // A node's number finds its offset and its tag; of what is written through `chunks_exact_mut` a proof knows the length alone.
     for v in 0..n {
         put(
             offsets,

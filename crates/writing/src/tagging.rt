@@ -1,5 +1,6 @@
 // One tag, written front to back from the rows. A label is written by first writing that of the node above its path, so a call goes
-// as deep as the label has path fields.
+// as deep as the label has path fields. A node is given as the marks and its number: a struct of both is no plainer, since it would have
+// to say of each node above that its marks are the same.
 ghost use Rattle.std.specs.Prelude.{◌≡◌, ℕ, ◌+◌, ◌*◌, ◌^◌, ◌<◌, ◌≤◌, false, length, slice_index_or, MatchOption};
 ghost use Rattle.std.specs.List.{flat_map};
 ghost use Rattle.formats.specs.Limits.{most_tag_bytes};

@@ -4,7 +4,7 @@ use Rattle.std.proofs.lemmas.Bool.{eq-eqb, ne_eqb}
 use Rattle.codes.specs.Words.{bits}
 use Rattle.writing.specs.Writes.{Wrote}
 use Rattle.writing.specs.Bits.{unpacked}
-use Rattle.writing.proofs.Puts.{wrote_nil, wrote_set, wrote_same}
+use Rattle.writing.proofs.Puts.{wrote_set, wrote_same}
 use Rattle.writing.proofs.Packing.{length_unpacked, length_digits, bit_more, next_clear}
 use Rattle.writing.proofs.bits.put_word.Goals as goal
 use Rattle.writing.proofs.bits.put_word.Goals.{then-word-i-eq1, else-word-i-eq1}

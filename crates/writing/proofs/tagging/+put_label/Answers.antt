@@ -12,7 +12,7 @@ use Rattle.writing.specs.Bits.{unpacked}
 use Rattle.writing.specs.Writes.{Wrote}
 use Rattle.writing.specs.Tags.{ends_at}
 use Rattle.writing.proofs.Puts.{then, wrote_two, getD_past_write}
-use Rattle.writing.proofs.Tagged.{Begun, begun_none, begun_turned, length_ends, some_field, last_inside, turned_fields, turned_bits, front_fields, front_bits, front_depths, ends_are, depths_are, body_is}
+use Rattle.writing.proofs.Tagged.{Begun, begun_none, begun_turned, length_ends, turned_fields, turned_bits, front_fields, front_bits, front_depths, ends_are, depths_are, body_is}
 use Rattle.writing.proofs.tagging.+put_label.Goals as goal
 use Rattle.writing.proofs.tagging.+put_label.Goals.{in-Some, in_default, In-Some, Joined-turn_at}
 

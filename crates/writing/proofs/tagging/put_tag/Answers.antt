@@ -6,7 +6,6 @@ use Rattle.formats.specs.Words.{pack}
 use Rattle.formats.proofs.Written.{length_two}
 use Rattle.rows.specs.Chains.{at}
 use Rattle.rows.specs.Rows.{row_label}
-use Rattle.rows.proofs.Labelled.{few_fields, few_bits}
 use Rattle.writing.specs.Tags.{ends_at, row_tag}
 use Rattle.writing.specs.Bits.{unpacked}
 use Rattle.writing.proofs.Puts.{then, wrote_two, wrote_set, wrote_all}

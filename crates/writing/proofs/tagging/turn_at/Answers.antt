@@ -1,9 +1,9 @@
-use Rattle.std.proofs.Common.{length, sym, ◌∙◌, arith}
+use Rattle.std.proofs.Common.{length, arith}
 use Rattle.labels.specs.Labels.{branch_word}
 use Rattle.rows.specs.Chains.{at}
 use Rattle.rows.specs.Rows.{parents_in}
 use Rattle.rows.proofs.Labelled.{branch_short}
-use Rattle.writing.proofs.Tagged.{straight, t_in, light, turned, held_same}
+use Rattle.writing.proofs.Tagged.{light, turned, held_same}
 use Rattle.writing.proofs.tagging.turn_at.Goals as goal
 
 pub word_at-requires-clause-short : goal.word_at-requires-clause-short
