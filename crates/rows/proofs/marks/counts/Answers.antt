@@ -4,7 +4,7 @@ use Rattle.labels.specs.Paths.{top}
 use Rattle.rows.specs.Rows.{parents_in}
 use Rattle.formats.specs.Label.{body_in}
 use Rattle.rows.specs.Rows.{row_label}
-use Rattle.rows.proofs.Labelled.{stored_more, above, fields_root, bits_root, few_fields, few_bits}
+use Rattle.rows.proofs.Labelled.{stored_more, top_in, above, fields_root, bits_root, few_fields, few_bits}
 use Rattle.rows.proofs.marks.counts.Goals as goal
 use Rattle.rows.proofs.marks.counts.Goals.{then-t-eq0, else-t-eq0}
 
@@ -29,6 +29,10 @@ loop-v-preserved g c =
             subst (Q G) (sym w.fields-is) (stored_more G c.loop-v.fields v _ (A.fields_are c.loop-v.fields c.loop-v.invariant.1) (omega arith) c.loop-v.invariant.1),
           )
     ]
+
+pub bounds-words-t-else-t-eq0 : goal.bounds-words-t-else-t-eq0
+bounds-words-t-else-t-eq0 g c =
+    omega (arith, top_in c.args.words.now.up.row.now c.args.words.now.top.now c.args.words.now.up.rooted c.args.words.now.topped c.loop-v.v (omega arith), c.args.words.now.wide_branches.2)
 
 pub overflow_add-bits : goal.overflow_add-bits
 overflow_add-bits g c =
