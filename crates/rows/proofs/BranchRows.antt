@@ -1,6 +1,7 @@
 -- The turns of `branch_words`.
-use Rattle.std.proofs.Common.{◌≡◌, ℕ, zero, suc, ◌+◌, ◌<◌, Bool, true, List, [], ◌∷◌, ◌++◌, map, length, get_or, sym, refl, ap, ◌∙◌, subst, ⊎_elim, arith, length-append}
-use lib.Seq.{get_or-append_seam}
+use Rattle.std.proofs.Common.{◌≡◌, ℕ, zero, suc, ◌+◌, ◌<◌, Bool, true, List, [], ◌∷◌, ◌++◌, map, length, sym, refl, ap, ◌∙◌, subst, ⊎_elim, arith, length-append}
+use Rattle.std.proofs.Math.ListN.{get_or-append}
+use Rattle.std.proofs.Math.Seq.{get_or-append_seam}
 use Rattle.std.proofs.lemmas.Bool.{cases_lt, cases_Bool, eq-eqb, ne_eqb}
 use Rattle.labels.specs.Sizes.{those, size, is_light, light_children}
 use Rattle.labels.specs.Labels.{branch_weights, branch_word, turn}
@@ -14,11 +15,6 @@ use Rattle.rows.specs.Chains.{at, run, chain, Held, Stored}
 use Rattle.rows.proofs.Walks.{held_same}
 use Rattle.rows.specs.Rows.{parents_in, Rooted, SizeRow, LightLinks}
 use Rattle.rows.proofs.Trees.{tree, map_same}
-
-getD_left : (xs ys : List ℕ) (i d : ℕ) → i < length xs → get_or (xs ++ ys) i d ≡ get_or xs i d
-getD_left [] ys i d h = absurd (omega arith)
-getD_left (x ∷ xs) ys zero d h = refl
-getD_left (x ∷ xs) ys (suc i) d h = getD_left xs ys i d (omega arith)
 
 pub run_some : (k : ℕ) (next : List ℕ) (c : ℕ) → 0 < length (run k next c)
 unfolding run
@@ -41,7 +37,7 @@ those_in (suc k) t i h =
     let h' : i < length (those k t ++ (k ∷ [])) = rw e at h in
     rw e
     (⊎_elim
-    (λ l. let x = ih l in let q = getD_left (those k t) (k ∷ []) i 0 l in (omega (arith, x.0), ap t q ∙ x.1))
+    (λ l. let x = ih l in let q = get_or-append (those k t) (k ∷ []) 0 i l in (omega (arith, x.0), ap t q ∙ x.1))
     (λ l. let s : i ≡ length (those k t) = omega arith in let q : at (those k t ++ (k ∷ [])) i ≡ k = rw s (get_or-append_seam (those k t) k [] 0) in (omega arith, ap t q ∙ e))
     (cases_lt i (length (those k t)))))
     (λ e. let x = ih (rw e at h) in rw e (omega (arith, x.0), x.1))
