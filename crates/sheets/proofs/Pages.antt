@@ -10,7 +10,7 @@ use Rattle.labels.specs.Sheet.{four, tag, offset, sheet}
 use Rattle.writing.proofs.Tagged.{joined_append}
 use Rattle.writing.proofs.Sheeted.{joined_count}
 use Rattle.sheets.specs.LookingUp.{nodes_of, offset_at, look_up_answer}
-use Rattle.sheets.proofs.Looked.{is_long, is_placed, found}
+use Rattle.sheets.proofs.Looked.{found}
 
 -- four bytes hold a number below 2 ^ 32, and no more is asked of the last
 pub whole_four : (x : ℕ) → get_or (four x) 0 0 + 256 * get_or (four x) 1 0 + 65536 * (get_or (four x) 2 0 + 256 * get_or (four x) 3 0) ≡ x
@@ -163,6 +163,6 @@ module _ (parent : ℕ → Option ℕ) (n : ℕ) (word : List ℕ → ℕ → Wo
       let o1 = offset_there (v + 1) (omega arith) in
       let up = offset_next v in
       let r = rises (v + 1) (n - (v + 1)) (omega arith) in
-      found (sheet parent n word number) v (is_long (sheet parent n word number) v (omega arith)) (omega arith) (is_placed (sheet parent n word number) v (omega arith) (omega arith) (omega arith))
+      found (sheet parent n word number) v (omega arith) (omega arith) (omega arith) (omega arith) (omega arith)
       ∙ ap₂ (λ (x y : ℕ). Ok (between x y (sheet parent n word number))) o o1
       ∙ ap (λ (bs : List ℕ). Ok bs) (part_is v l)

@@ -37,6 +37,7 @@ fn offset(sheet: &[u8], v: u16) -> usize
 
 // The part of a sheet that holds the tag of a node. Any bytes may come in: what is no sheet is refused, or has some part of it
 // answered, which the reader of tags then judges.
+#[tactic(auto, using(crate::proofs::Looked::too_short, crate::proofs::Looked::no_node, crate::proofs::Looked::too_early))]
 pub fn look_up(sheet: &[u8], v: u16) -> Result<&[u8], LookUpRefusal>
     ensures told { MatchResult result (λ part. look_up_answer sheet.now v ≡ Ok part.now) (λ refusal. look_up_answer sheet.now v ≡ Err refusal) }
 {

@@ -47,81 +47,87 @@ fn word_at(rows: &WordRows, i: usize) -> Word
 
 // The path word of a node.
 #[tactic(auto, using(rows::proofs::Labelled::path_short))]
-fn path_word<C: Code>(m: &Marks<C>, v: usize) -> Word
-    requires { v < length m.now.words.up.row.now }
-    ensures is { result ≡ path_word (parents_in m.now.words.up.row.now) (length m.now.words.up.row.now) (C.words m.now.words.code.now) v }
+fn path_word<C: Code>(marks: &Marks<C>, v: usize) -> Word
+    requires { v < length marks.now.words.up.row.now }
+    ensures is { result ≡ path_word (parents_in marks.now.words.up.row.now) (length marks.now.words.up.row.now) (C.words marks.now.words.code.now) v }
     ensures short { result.len ≤ 32 }
 {
-    word_at(&m.words.path, v)
+    word_at(&marks.words.path, v)
 }
 
 // The turn that leads to the path of a node, and none on the root's path.
 #[tactic(auto, using(crate::proofs::Tagged::straight, crate::proofs::Tagged::t_in))]
-fn turn_at<C: Code>(m: &Marks<C>, v: usize) -> Option<Turn>
-    requires { v < length m.now.words.up.row.now }
-    ensures { MatchOption result (Straight (C.words m.now.words.code.now) m.now.words.up.row.now v) (λ turn. Turned (C.words m.now.words.code.now) m.now.words.up.row.now v turn.above turn.word) }
+fn turn_at<C: Code>(marks: &Marks<C>, v: usize) -> Option<Turn>
+    requires { v < length marks.now.words.up.row.now }
+    ensures { MatchOption result (Straight (C.words marks.now.words.code.now) marks.now.words.up.row.now v) (λ turn. Turned (C.words marks.now.words.code.now) marks.now.words.up.row.now v turn.above turn.word) }
 {
-    let top = m.words.top[v] as usize;
+    let top = marks.words.top[v] as usize;
     if top == 0 {
         return None;
     }
     Some(Turn {
-        above: m.words.up.row[top] as usize,
-        word: word_at(&m.words.branch, top),
+        above: marks.words.up.row[top] as usize,
+        word: word_at(&marks.words.branch, top),
     })
 }
 
 // The label of a node: where its words end, the depths at its path fields, and the bits of its words, these into clear bytes.
 #[tactic(auto, using(crate::proofs::Tagged::some_field, crate::proofs::Tagged::last_inside, crate::proofs::Tagged::turned_bits))]
-fn put_label<C: Code>(m: &Marks<C>, v: usize, ends: &mut [u8], depths: &mut [u8], body: &mut [u8])
-    requires inside { v < length m.now.words.up.row.now }
-    requires ends_room { 2 * length (row_label (C.words m.now.words.code.now) m.now.words.up.row.now v) ≤ length ends.old }
-    requires depths_room { length (row_label (C.words m.now.words.code.now) m.now.words.up.row.now v) + 1 ≤ length depths.old }
-    requires body_room { length (body_in (row_label (C.words m.now.words.code.now) m.now.words.up.row.now v)) ≤ 8 * length body.old }
+fn put_label<C: Code>(
+    marks: &Marks<C>,
+    v: usize,
+    ends: &mut [u8],
+    depths: &mut [u8],
+    body: &mut [u8],
+)
+    requires inside { v < length marks.now.words.up.row.now }
+    requires ends_room { 2 * length (row_label (C.words marks.now.words.code.now) marks.now.words.up.row.now v) ≤ length ends.old }
+    requires depths_room { length (row_label (C.words marks.now.words.code.now) marks.now.words.up.row.now v) + 1 ≤ length depths.old }
+    requires body_room { length (body_in (row_label (C.words marks.now.words.code.now) marks.now.words.up.row.now v)) ≤ 8 * length body.old }
     requires long { length body.old < 2 ^ 60 }
     requires clear { (j : ℕ) → slice_index_or (unpacked body.old) j false ≡ false }
-    ensures ends { Wrote 0 (flat_map two (ends_at (row_label (C.words m.now.words.code.now) m.now.words.up.row.now v))) ends.old ends.new }
-    ensures depths { Wrote 0 (flat_map two (depths_in (row_label (C.words m.now.words.code.now) m.now.words.up.row.now v))) depths.old depths.new }
-    ensures body { Wrote 0 (body_in (row_label (C.words m.now.words.code.now) m.now.words.up.row.now v)) (unpacked body.old) (unpacked body.new) }
+    ensures ends { Wrote 0 (flat_map two (ends_at (row_label (C.words marks.now.words.code.now) marks.now.words.up.row.now v))) ends.old ends.new }
+    ensures depths { Wrote 0 (flat_map two (depths_in (row_label (C.words marks.now.words.code.now) marks.now.words.up.row.now v))) depths.old depths.new }
+    ensures body { Wrote 0 (body_in (row_label (C.words marks.now.words.code.now) marks.now.words.up.row.now v)) (unpacked body.old) (unpacked body.new) }
 {
-    let word = path_word(m, v);
-    let last = m.fields[v] as usize - 1;
-    let end = m.bits[v];
+    let word = path_word(marks, v);
+    let last = marks.fields[v] as usize - 1;
+    let end = marks.bits[v];
     let begin = end - word.len as u16;
-    if let Some(turn) = turn_at(m, v) {
-        put_label(m, turn.above, ends, depths, body);
+    if let Some(turn) = turn_at(marks, v) {
+        put_label(marks, turn.above, ends, depths, body);
         put(ends, ENTRY_BYTES * (last - 1), &begin.to_le_bytes());
         put_word(body, begin as usize - turn.word.len as usize, turn.word);
     }
     put(ends, ENTRY_BYTES * last, &end.to_le_bytes());
-    put(depths, last, &m.depth[v].to_le_bytes());
+    put(depths, last, &marks.depth[v].to_le_bytes());
     put_word(body, begin as usize, word);
 }
 
 // How many bytes a tag has.
 #[tactic(auto, using(crate::proofs::Tagged::tag_long, crate::proofs::Tagged::tag_small))]
-pub fn tag_size<C: Code>(m: &Marks<C>, v: usize) -> usize
-    requires { v < length m.now.words.up.row.now }
-    ensures is { (number : ℕ) → result ≡ length (row_tag (C.words m.now.words.code.now) m.now.words.up.row.now number v) }
+pub fn tag_size<C: Code>(marks: &Marks<C>, v: usize) -> usize
+    requires { v < length marks.now.words.up.row.now }
+    ensures is { (number : ℕ) → result ≡ length (row_tag (C.words marks.now.words.code.now) marks.now.words.up.row.now number v) }
     ensures small { result ≤ most_tag_bytes }
 {
-    let k = m.fields[v] as usize;
-    ENDS_AT + ENTRY_BYTES * k + (k + 1) + filled(m.bits[v])
+    let k = marks.fields[v] as usize;
+    ENDS_AT + ENTRY_BYTES * k + (k + 1) + filled(marks.bits[v])
 }
 
 // The tag of a node, over all of an output.
 #[tactic(auto, using(crate::proofs::Tagged::tag_long, rows::proofs::Labelled::few_fields, rows::proofs::Labelled::few_bits))]
-pub fn put_tag<C: Code>(m: &Marks<C>, number: u16, v: usize, out: &mut [u8])
-    requires inside { v < length m.now.words.up.row.now }
-    requires room { length out.old ≡ length (row_tag (C.words m.now.words.code.now) m.now.words.up.row.now number v) }
-    ensures { out.new ≡ row_tag (C.words m.now.words.code.now) m.now.words.up.row.now number v }
+pub fn put_tag<C: Code>(marks: &Marks<C>, number: u16, v: usize, out: &mut [u8])
+    requires inside { v < length marks.now.words.up.row.now }
+    requires room { length out.old ≡ length (row_tag (C.words marks.now.words.code.now) marks.now.words.up.row.now number v) }
+    ensures { out.new ≡ row_tag (C.words marks.now.words.code.now) marks.now.words.up.row.now number v }
 {
-    let k = m.fields[v] as usize;
+    let k = marks.fields[v] as usize;
     let (head, rest) = out.split_at_mut(ENDS_AT);
     let (ends, rest) = rest.split_at_mut(ENTRY_BYTES * k);
     let (depths, body) = rest.split_at_mut(k + 1);
     put(head, NUMBER_AT, &number.to_le_bytes());
     head[COUNT_AT] = k as u8;
     body.fill(0);
-    put_label(m, v, ends, depths, body);
+    put_label(marks, v, ends, depths, body);
 }

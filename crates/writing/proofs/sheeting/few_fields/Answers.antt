@@ -10,7 +10,7 @@ use Rattle.writing.proofs.sheeting.few_fields.Goals as goal
 
 pub returns : goal.returns
 returns g c =
-    let m = c.args.m.now in
+    let m = c.args.marks.now in
     let f = g.C.Code.words m.words.code.now in
     let up = m.words.up.row.now in
     let by_call = all_from_yields_List (λ k. leb k most_fields) _ _ c.all.result c.all.ensures.ran (YieldsList-from_slice m.fields.now cc) (λ x b q k. search (rules, tests)) in

@@ -8,8 +8,8 @@ use Rattle.writing.proofs.sheeting.put_nodes.Goals as goal
 
 pub loop-v-init : goal.loop-v-init
 loop-v-init g c =
-    let f = g.C.Code.words c.args.m.now.words.code.now in
-    let up = c.args.m.now.words.up.row.now in
+    let f = g.C.Code.words c.args.marks.now.words.code.now in
+    let up = c.args.marks.now.words.up.row.now in
     let offsets = c.args.offsets.now in
     let tags = c.args.tags.now in
     record {
@@ -21,13 +21,13 @@ loop-v-init g c =
 
 pub loop-v-preserved : goal.loop-v-preserved
 loop-v-preserved g c =
-    let f = g.C.Code.words c.args.m.now.words.code.now in
-    let up = c.args.m.now.words.up.row.now in
+    let f = g.C.Code.words c.args.marks.now.words.code.now in
+    let up = c.args.marks.now.words.up.row.now in
     let v = c.loop-v.v in
     let end = c.loop-v.end in
     let size = c.tag_size-end.ensures.is c.args.number in
     let begin = offset_is f up c.args.number v in
-    let few = c.args.m.now.words.up.rooted.few in
+    let few = c.args.marks.now.words.up.rooted.few in
     let sum = tags_sum f up c.args.number v in
     let longer = tags_longer f up c.args.number (length up) (v + 1) (omega arith) in
     let room = c.requires.tags_room in
@@ -40,12 +40,12 @@ loop-v-preserved g c =
 
 pub returns-clause-offsets : goal.returns-clause-offsets
 returns-clause-offsets g c =
-    let f = g.C.Code.words c.args.m.now.words.code.now in
-    let up = c.args.m.now.words.up.row.now in
+    let f = g.C.Code.words c.args.marks.now.words.code.now in
+    let up = c.args.marks.now.words.up.row.now in
     let v = c.loop-v.v in
     let e : v ≡ length up = omega arith in
     let begin = offset_is f up c.args.number v in
-    let few = c.args.m.now.words.up.rooted.few in
+    let few = c.args.marks.now.words.up.rooted.few in
     let first = c.header-first.ensures in
     let before = c.loop-v.invariant.sum in
     let most = c.loop-v.invariant.small in

@@ -7,8 +7,8 @@ use Rattle.writing.proofs.sheeting.put_nodes.Given as goal
 -- the offsets and the tags of the nodes below v are written
 abbrev pub invariant-loop-v : goal.invariant-loop-v
 invariant-loop-v g l =
-    let f = g.C.Code.words l.m.words.code.now in
-    let up = l.m.words.up.row.now in
+    let f = g.C.Code.words l.marks.words.code.now in
+    let up = l.marks.words.up.row.now in
     record {
       sum : l.end ≡ length (tags_to f up l.number l.v);
       small : l.end ≤ most_tag_bytes * l.v;

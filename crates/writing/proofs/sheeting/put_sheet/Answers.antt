@@ -8,10 +8,10 @@ use Rattle.writing.proofs.sheeting.put_sheet.Goals as goal
 
 pub returns : goal.returns
 returns g c =
-    let f = g.C.Code.words c.args.m.now.words.code.now in
-    let up = c.args.m.now.words.up.row.now in
+    let f = g.C.Code.words c.args.marks.now.words.code.now in
+    let up = c.args.marks.now.words.up.row.now in
     let n = length up in
-    let few = c.args.m.now.words.up.rooted.few in
+    let few = c.args.marks.now.words.up.rooted.few in
     let offsets = offsets_to f up c.args.number (n + 1) in
     let tags = tags_to f up c.args.number n in
     let many = length_offsets f up c.args.number (n + 1) in

@@ -18,15 +18,15 @@ use Rattle.writing.proofs.tagging.+put_label.Goals.{in-Some, in_default, In-Some
 
 pub put_word-requires-clause-clear : goal.put_word-requires-clause-clear
 put_word-requires-clause-clear g t c =
-    let m = c.args.m.now in
+    let m = c.args.marks.now in
     let n = ap (λ w. w.len) c.path_word-word.ensures.is in
     let b = turned_bits (g.C.Code.words m.words.code.now) m.words.up.row.now m.words.up.rooted c.args.v c.requires.inside c.in-Some.turn.above c.in-Some.turn.word c.in-Some.ensures in
     let k = m.counted c.args.v c.requires.inside in
     λ j h. getD_past_write c.put_label.ensures.body j false (omega arith) ∙ c.requires.clear j
 
-begun : (g : _) (t : ℕ) (c : Joined-turn_at g t) → Begun (g.C.Code.words c.args.m.now.words.code.now) c.args.m.now.words.up.row.now c.args.v c.args.ends.now c.args.depths.now c.args.body.now c.match-turn_at.ends c.match-turn_at.depths c.match-turn_at.body
+begun : (g : _) (t : ℕ) (c : Joined-turn_at g t) → Begun (g.C.Code.words c.args.marks.now.words.code.now) c.args.marks.now.words.up.row.now c.args.v c.args.ends.now c.args.depths.now c.args.body.now c.match-turn_at.ends c.match-turn_at.depths c.match-turn_at.body
 begun g t c =
-    let m = c.args.m.now in
+    let m = c.args.marks.now in
     let f = g.C.Code.words m.words.code.now in
     let up = m.words.up.row.now in
     let v = c.args.v in
@@ -50,7 +50,7 @@ begun g t c =
 
 pub put_word-requires-2-clause-clear : goal.put_word-requires-2-clause-clear
 put_word-requires-2-clause-clear g t c =
-    let m = c.args.m.now in
+    let m = c.args.marks.now in
     let b = begun g t (goal.at.put_word-requires-2-clause-clear g t c).Joined-turn_at in
     let n = ap (λ w. w.len) c.path_word-word.ensures.is in
     let fits = front_bits (g.C.Code.words m.words.code.now) m.words.up.row.now m.words.up.rooted c.args.v c.requires.inside b.front b.label in
@@ -59,7 +59,7 @@ put_word-requires-2-clause-clear g t c =
 
 pub returns : goal.returns
 returns g t c =
-    let m = c.args.m.now in
+    let m = c.args.marks.now in
     let f = g.C.Code.words m.words.code.now in
     let up = m.words.up.row.now in
     let v = c.args.v in

@@ -19,7 +19,7 @@ put_label-requires-clause-clear g c = zero_bits c.fill.new.self (λ i h. search 
 pub returns : goal.returns
 unfolding row_tag
 returns g c =
-    let m = c.args.m.now in
+    let m = c.args.marks.now in
     let f = g.C.Code.words m.words.code.now in
     let up = m.words.up.row.now in
     let l = row_label f up c.args.v in

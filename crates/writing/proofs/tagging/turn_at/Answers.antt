@@ -8,7 +8,7 @@ use Rattle.writing.proofs.tagging.turn_at.Goals as goal
 
 pub word_at-requires-clause-short : goal.word_at-requires-clause-short
 word_at-requires-clause-short g c =
-    let m = c.args.m.now in
+    let m = c.args.marks.now in
     let f = g.C.Code.words m.words.code.now in
     let t = at m.words.top.now c.args.v in
     let l = light f m.words.up.row.now m.words.up.rooted c.args.v c.requires t (m.words.topped c.args.v c.requires) c.if-top-eq0.false in
@@ -16,7 +16,7 @@ word_at-requires-clause-short g c =
 
 pub returns : goal.returns
 returns g c =
-    let m = c.args.m.now in
+    let m = c.args.marks.now in
     let f = g.C.Code.words m.words.code.now in
     let up = m.words.up.row.now in
     let t = at m.words.top.now c.args.v in
