@@ -1,12 +1,20 @@
 // The commands on codes: they choose one, and ask for words.
-use crate::line::{not_understood, say_refused, small_numbers};
+ghost use Rattle.codes.specs.Gilbert.{gilbert_moore};
+ghost use Rattle.codes.specs.Halves.{bisection};
+ghost use Rattle.codes.specs.Laws.{gilbert_lawful, bisection_lawful};
+ghost use Rattle.mirgozda.specs.declared.coding.Coding.TheVariants.{GilbertMoore, Bisection};
+
+use crate::line::numbers_of;
+use crate::refusal::Refusal;
 use crate::state::State;
 use codes::bisection::Bisection;
 use codes::code::{Code, CodeRefusal, word_at};
 use codes::gilbert_moore::GilbertMoore;
+use codes::item::Item;
 use codes::word::Word;
-use std::io;
+use std::fmt;
 use std::io::Write;
+use std::str::FromStr;
 
 // The code that a script has chosen.
 #[derive(Clone, Copy)]
@@ -15,65 +23,57 @@ pub enum Coding {
     Bisection,
 }
 
-impl Coding {
-    pub fn by_name(name: &str) -> Option<Coding> {
-        match name {
-            "gilbert-moore" => Some(Coding::GilbertMoore),
-            "bisection" => Some(Coding::Bisection),
-            _ => None,
-        }
-    }
-
-    pub fn name(self) -> &'static str {
-        match self {
+impl fmt::Display for Coding {
+    fn fmt<W: fmt::Write>(&self, f: &mut fmt::Formatter<W>) -> fmt::Result {
+        f.write_str(match self {
             Coding::GilbertMoore => "gilbert-moore",
             Coding::Bisection => "bisection",
-        }
+        })
     }
+}
 
-    pub fn word(self, weights: &[u16], index: usize) -> Result<Word, CodeRefusal> {
-        match self {
-            Coding::GilbertMoore => word_at(&GilbertMoore, weights, index),
-            Coding::Bisection => word_at(&Bisection, weights, index),
+impl FromStr for Coding {
+    type Err = Refusal;
+
+    fn from_str(name: &str) -> Result<Coding, Refusal> {
+        match name {
+            "gilbert-moore" => Ok(Coding::GilbertMoore),
+            "bisection" => Ok(Coding::Bisection),
+            _ => Err(Refusal::NotUnderstood),
         }
     }
 }
 
-// Adds the bits of a word, as 0 and 1, the high bit first.
-fn add_bits(word: Word, out: &mut Vec<u8>) -> io::Result<()> {
-    for i in (0..word.len.min(32)).rev() {
-        out.push(b'0' + ((word.value >> i) & 1) as u8)?;
+impl Code for Coding {
+    ghost words = { elim [ GilbertMoore ↦ gilbert_moore | Bisection ↦ bisection ] };
+
+    ghost laws = { elim [ GilbertMoore ↦ gilbert_lawful | Bisection ↦ bisection_lawful ] };
+
+    fn word(&self, item: &Item) -> Result<Word, CodeRefusal> {
+        match self {
+            Coding::GilbertMoore => GilbertMoore.word(item),
+            Coding::Bisection => Bisection.word(item),
+        }
     }
+}
+
+pub fn code(state: &mut State, rest: &[&str], out: &mut Vec<u8>) -> Result<(), Refusal> {
+    let [name] = rest else {
+        return Err(Refusal::NotUnderstood);
+    };
+    let coding: Coding = name.parse()?;
+    state.coding = coding;
+    writeln!(out, "code: {coding}")?;
     Ok(())
 }
 
-fn say_word(word: Word, out: &mut Vec<u8>) -> io::Result<()> {
-    out.write_all(b"word ")?;
-    add_bits(word, out)?;
-    out.write_all(b"\n")
-}
-
-pub fn code(state: &mut State, rest: &[&str], out: &mut Vec<u8>) -> io::Result<()> {
-    let [name] = rest else {
-        return not_understood(out);
-    };
-    let Some(coding) = Coding::by_name(name) else {
-        return not_understood(out);
-    };
-    state.coding = coding;
-    let name = coding.name();
-    writeln!(out, "code: {name}")
-}
-
-pub fn word(state: &State, rest: &[&str], out: &mut Vec<u8>) -> io::Result<()> {
-    let Some(numbers) = small_numbers(state.heap, rest)? else {
-        return not_understood(out);
-    };
+pub fn word(state: &State, rest: &[&str], out: &mut Vec<u8>) -> Result<(), Refusal> {
+    let numbers = numbers_of(state.heap, rest)?;
     let [index, weights @ ..] = numbers.as_slice() else {
-        return not_understood(out);
+        return Err(Refusal::NotUnderstood);
     };
-    match state.coding.word(weights, usize::from(*index)) {
-        Ok(word) => say_word(word, out),
-        Err(refusal) => say_refused(refusal.number(), out),
-    }
+    let Word { value, len } = word_at(&state.coding, weights, usize::from(*index))?;
+    let len = usize::from(len);
+    writeln!(out, "word {value:0len$b}")?;
+    Ok(())
 }

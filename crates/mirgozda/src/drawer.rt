@@ -1,76 +1,70 @@
 // The tickets that a script has in hand, by place.
 use racks::rack::Rack;
-use racks::ticket::{AnyTicket, OpenedTicket, StartedTicket};
-use std::mem;
+use racks::ticket::AnyTicket;
+use std::{array, mem};
 
-const PLACES: usize = 16;
-
-pub enum Slot {
-    Empty,
-    Opened(OpenedTicket),
-    Started(StartedTicket),
-}
+pub const PLACES: usize = 16;
 
 pub struct Drawer {
-    slots: [Slot; PLACES],
+    slots: [Option<AnyTicket>; PLACES],
 }
 
-// Spends the ticket of a slot, and says whether that emptied its place; None where there is no ticket.
-pub fn spend(rack: &mut Rack, slot: Slot) -> Option<bool> {
-    match slot {
-        Slot::Empty => None,
-        Slot::Opened(ticket) => Some(rack.abandon(AnyTicket::Opened(ticket))),
-        Slot::Started(ticket) => Some(rack.abandon(AnyTicket::Started(ticket))),
+// Spends a ticket, and says whether that emptied its place. Any rack spends any ticket.
+pub fn spend(rack: &mut Option<Rack>, ticket: AnyTicket) -> bool {
+    match rack {
+        Some(rack) => rack.abandon(ticket),
+        None => Rack::new(0, 0).abandon(ticket),
     }
 }
 
-fn spend_four(rack: &mut Rack, a: Slot, b: Slot, c: Slot, d: Slot) {
-    let _ = spend(rack, a);
-    let _ = spend(rack, b);
-    let _ = spend(rack, c);
-    let _ = spend(rack, d);
+// Spends the tickets of four slots.
+fn spend_four(rack: &mut Option<Rack>, slots: [Option<AnyTicket>; 4]) {
+    let [a, b, c, d] = slots;
+    spend_slot(rack, a);
+    spend_slot(rack, b);
+    spend_slot(rack, c);
+    spend_slot(rack, d);
+}
+
+fn spend_slot(rack: &mut Option<Rack>, slot: Option<AnyTicket>) {
+    if let Some(ticket) = slot {
+        let _ = spend(rack, ticket);
+    }
 }
 
 impl Drawer {
     pub fn new() -> Drawer {
-        const EMPTY: Slot = Slot::Empty;
         Drawer {
-            slots: [EMPTY; PLACES],
+            slots: array::from_fn(|_| None),
         }
     }
 
     // Whether a ticket for a place is in hand.
-    pub fn has(&self, place: u8) -> bool {
-        if usize::from(place) >= PLACES {
-            return false;
-        }
-        match &self.slots[usize::from(place)] {
-            Slot::Empty => false,
-            Slot::Opened(_) => true,
-            Slot::Started(_) => true,
-        }
+    pub fn has(&self, place: usize) -> bool {
+        self.slots.get(place).is_some_and(|slot| slot.is_some())
     }
 
     // Takes the ticket for a place out of the drawer.
-    pub fn take(&mut self, place: u8) -> Slot {
-        self.put(place, Slot::Empty)
+    pub fn take(&mut self, place: usize) -> Option<AnyTicket> {
+        self.put(place, None)
     }
 
-    // Puts a ticket in for a place, and gives back what lay there; a ticket for a place that no rack has is given back itself.
-    pub fn put(&mut self, place: u8, slot: Slot) -> Slot {
-        if usize::from(place) >= PLACES {
-            return slot;
+    // Puts a ticket in for a place, or none, and gives back what lay there; a ticket for a place that no rack has is given back itself.
+    pub fn put(&mut self, place: usize, slot: Option<AnyTicket>) -> Option<AnyTicket> {
+        match self.slots.get_mut(place) {
+            Some(old) => mem::replace(old, slot),
+            None => slot,
         }
-        mem::replace(&mut self.slots[usize::from(place)], slot)
     }
 
-    // Ends the drawer: every ticket that is left is spent.
-    pub fn end(self, rack: &mut Rack) {
+    // Ends the drawer: every ticket that is left is spent. An array goes into a loop by value only where its elements may be let go,
+    // so its slots have names.
+    pub fn end(self, rack: &mut Option<Rack>) {
         let Drawer { slots } = self;
         let [a, b, c, d, e, f, g, h, i, j, k, l, m, n, o, p] = slots;
-        spend_four(rack, a, b, c, d);
-        spend_four(rack, e, f, g, h);
-        spend_four(rack, i, j, k, l);
-        spend_four(rack, m, n, o, p);
+        spend_four(rack, [a, b, c, d]);
+        spend_four(rack, [e, f, g, h]);
+        spend_four(rack, [i, j, k, l]);
+        spend_four(rack, [m, n, o, p]);
     }
 }

@@ -1,61 +1,34 @@
 // The commands on hosts: they make one the present host, or ask it.
-use crate::line::{not_understood, small_number, small_numbers};
+use crate::any_host::Source;
+use crate::line::{number_of, numbers_of};
 use crate::parts::levels_of_text;
-use crate::state::{Source, State};
+use crate::refusal::Refusal;
+use crate::state::State;
+use std::alloc::Global;
+use std::fs;
 use std::io::Write;
-use std::{fs, io};
-use trees::climb::{ClimbRefusal, meet};
-use trees::host::{Host, HostFault};
-use trees::indented::IndentedHost;
+use trees::climb::meet;
+use trees::host::Host;
 use trees::rule::{RuleHost, Shape};
 
-fn no_host(out: &mut Vec<u8>) -> io::Result<()> {
-    writeln!(out, "no host")
-}
-
-fn say_fault(fault: HostFault, out: &mut Vec<u8>) -> io::Result<()> {
-    let kind = fault.kind.number();
-    let place = fault.place;
-    writeln!(out, "fault kind {kind} place {place}")
-}
-
-fn say_verdict<H: Host>(host: &H, out: &mut Vec<u8>) -> io::Result<()> {
-    match host.verdict() {
-        Ok(n) => writeln!(out, "{n} nodes"),
-        Err(fault) => say_fault(fault, out),
-    }
-}
-
-fn say_parent<H: Host>(host: &H, v: u16, out: &mut Vec<u8>) -> io::Result<()> {
-    match host.parent(v) {
-        Some(u) => writeln!(out, "parent {u}"),
-        None => writeln!(out, "no parent"),
-    }
-}
-
-fn say_meet<H: Host>(host: &H, first: u16, others: &[u16], out: &mut Vec<u8>) -> io::Result<()> {
-    match meet(host, first, others) {
-        Ok(assembly) => {
-            let node = assembly.node;
-            let depth = assembly.depth;
-            writeln!(out, "meet {node} depth {depth}")
-        }
-        Err(ClimbRefusal::NoTree(fault)) => say_fault(fault, out),
-        Err(ClimbRefusal::NoSuchNode(v)) => writeln!(out, "no such node {v}"),
-    }
-}
-
 // Makes an indented list the present host.
-fn take_levels(state: &mut State, levels: Vec<u16>, out: &mut Vec<u8>) -> io::Result<()> {
+fn take_levels(state: &mut State, levels: Vec<u16>, out: &mut Vec<u8>) -> Result<(), Refusal> {
     let n = levels.len();
-    state.source = Source::Levels(levels);
-    writeln!(out, "host: indented list, {n} lines")
+    state.source = Some(Source::Levels(levels));
+    writeln!(out, "host: indented list, {n} lines")?;
+    Ok(())
 }
 
-pub fn levels(state: &mut State, rest: &[&str], out: &mut Vec<u8>) -> io::Result<()> {
-    match small_numbers(state.heap, rest)? {
-        Some(all) => take_levels(state, all, out),
-        None => not_understood(out),
+pub fn levels(state: &mut State, rest: &[&str], out: &mut Vec<u8>) -> Result<(), Refusal> {
+    let levels = numbers_of(state.heap, rest)?;
+    take_levels(state, levels, out)
+}
+
+// The bytes of a file.
+pub fn read_file(rt: &HostRuntime, heap: Global, file: &str) -> Result<Vec<u8>, Refusal> {
+    match fs::read(rt, file) {
+        Ok(bytes) => Ok(bytes),
+        Err(_) => Err(Refusal::CannotRead(String::from_str(heap, file)?)),
     }
 }
 
@@ -64,73 +37,61 @@ pub fn list(
     state: &mut State,
     rest: &[&str],
     out: &mut Vec<u8>,
-) -> io::Result<()> {
+) -> Result<(), Refusal> {
     let [file] = rest else {
-        return not_understood(out);
+        return Err(Refusal::NotUnderstood);
     };
-    let read = match fs::read(rt, *file) {
-        Ok(text) => levels_of_text(state.heap, text.as_slice())?,
-        Err(_) => None,
+    let text = read_file(rt, state.heap, file)?;
+    let Some(levels) = levels_of_text(state.heap, text.as_slice())? else {
+        return Err(Refusal::CannotRead(String::from_str(state.heap, file)?));
     };
-    match read {
-        Some(all) => take_levels(state, all, out),
-        None => writeln!(out, "cannot read {file}"),
-    }
+    take_levels(state, levels, out)
 }
 
-pub fn rule(state: &mut State, shape: Shape, rest: &[&str], out: &mut Vec<u8>) -> io::Result<()> {
-    let [word] = rest else {
-        return not_understood(out);
+pub fn rule(
+    state: &mut State,
+    shape: Shape,
+    rest: &[&str],
+    out: &mut Vec<u8>,
+) -> Result<(), Refusal> {
+    let [count] = rest else {
+        return Err(Refusal::NotUnderstood);
     };
-    let Some(count) = small_number(word) else {
-        return not_understood(out);
-    };
-    let name = match shape {
-        Shape::Chain => "chain",
-        Shape::Star => "star",
-        Shape::Binary => "binary",
-    };
-    state.source = Source::Rule(RuleHost { shape, count });
-    writeln!(out, "host: {name}, {count}")
+    let count = number_of(count)?;
+    state.source = Some(Source::Rule(RuleHost { shape, count }));
+    writeln!(out, "host: {shape}, {count}")?;
+    Ok(())
 }
 
-pub fn verdict(state: &State, rest: &[&str], out: &mut Vec<u8>) -> io::Result<()> {
+pub fn verdict(state: &State, rest: &[&str], out: &mut Vec<u8>) -> Result<(), Refusal> {
     if !rest.is_empty() {
-        return not_understood(out);
+        return Err(Refusal::NotUnderstood);
     }
-    match &state.source {
-        Source::Absent => no_host(out),
-        Source::Levels(levels) => say_verdict(&IndentedHost::new(levels.as_slice()), out),
-        Source::Rule(host) => say_verdict(host, out),
-    }
+    let n = state.host()?.verdict()?;
+    writeln!(out, "{n} nodes")?;
+    Ok(())
 }
 
-pub fn parent(state: &State, rest: &[&str], out: &mut Vec<u8>) -> io::Result<()> {
-    let [word] = rest else {
-        return not_understood(out);
+pub fn parent(state: &State, rest: &[&str], out: &mut Vec<u8>) -> Result<(), Refusal> {
+    let [v] = rest else {
+        return Err(Refusal::NotUnderstood);
     };
-    let Some(v) = small_number(word) else {
-        return not_understood(out);
-    };
-    match &state.source {
-        Source::Absent => no_host(out),
-        Source::Levels(levels) => say_parent(&IndentedHost::new(levels.as_slice()), v, out),
-        Source::Rule(host) => say_parent(host, v, out),
+    let v = number_of(v)?;
+    match state.host()?.parent(v) {
+        Some(u) => writeln!(out, "parent {u}")?,
+        None => writeln!(out, "no parent")?,
     }
+    Ok(())
 }
 
-pub fn meeting(state: &State, rest: &[&str], out: &mut Vec<u8>) -> io::Result<()> {
-    let Some(nodes) = small_numbers(state.heap, rest)? else {
-        return not_understood(out);
-    };
+pub fn meeting(state: &State, rest: &[&str], out: &mut Vec<u8>) -> Result<(), Refusal> {
+    let nodes = numbers_of(state.heap, rest)?;
     let [first, others @ ..] = nodes.as_slice() else {
-        return not_understood(out);
+        return Err(Refusal::NotUnderstood);
     };
-    match &state.source {
-        Source::Absent => no_host(out),
-        Source::Levels(levels) => {
-            say_meet(&IndentedHost::new(levels.as_slice()), *first, others, out)
-        }
-        Source::Rule(host) => say_meet(host, *first, others, out),
-    }
+    let assembly = meet(&state.host()?, *first, others)?;
+    let node = assembly.node;
+    let depth = assembly.depth;
+    writeln!(out, "meet {node} depth {depth}")?;
+    Ok(())
 }

@@ -1,102 +1,76 @@
-// The words of a line, the numbers and bytes among them, and answers that many commands have.
+// The words of a line, and the numbers, bytes and tags that they stand for.
+ghost use Rattle.std.specs.Prelude.{◌<◌, IfOk};
+
+use crate::refusal::Refusal;
 use std::alloc::{AllocError, Global};
-use std::io;
-use std::io::Write;
+use std::fmt;
+use tags::limits::MOST_TAG_BYTES;
 use texts::number;
 
-// The greatest number that a script may write where nothing else is said.
-const MOST_NUMBER: u32 = 65_535;
-
-// The greatest place that a script may name.
-const MOST_PLACE: u32 = 255;
-
-// The greatest count of numbers or bytes that a script may hand in.
-const MOST_ROOM: u32 = 1_000_000_000;
-
-pub fn not_understood(out: &mut Vec<u8>) -> io::Result<()> {
-    writeln!(out, "not understood")
-}
-
-pub fn say_refused(number: u8, out: &mut Vec<u8>) -> io::Result<()> {
-    writeln!(out, "refused {number}")
-}
+// The greatest number that a script may write: how many numbers or bytes are to be handed in.
+const MOST_NUMBER: u32 = 1_000_000_000;
 
 // Whether a line is passed over: it is empty, has spaces only, or begins with `#`.
 pub fn is_passed_over(line: &[u8]) -> bool {
-    for b in line {
-        if *b != b' ' {
-            return line[0] == b'#';
-        }
-    }
-    true
+    matches!(line, [b'#', ..]) || line.iter().all(|b| *b == b' ')
 }
 
 // The words of a line, which one or more spaces separate.
 pub fn split_words<'a>(heap: Global, line: &'a str) -> Result<Vec<&'a str>, AllocError> {
-    let mut words = Vec::new(heap);
-    for word in line.split(' ') {
-        if !word.is_empty() {
-            words.push(word)?;
+    line.split(' ')
+        .filter(|word| !word.is_empty())
+        .collect(heap)
+}
+
+// A number in decimal digits, as far as its type goes and no more than a script may write.
+pub fn number_of<T: TryFrom<u32>>(word: &str) -> Result<T, Refusal>
+where
+    T::Error: Drop,
+{
+    number(word.as_bytes(), MOST_NUMBER)
+        .and_then(|n| T::try_from(n).ok())
+        .ok_or(Refusal::NotUnderstood)
+}
+
+// The number of a place: a rack says itself which places it has.
+pub fn place_of(word: &str) -> Result<usize, Refusal> {
+    let place: u8 = number_of(word)?;
+    Ok(usize::from(place))
+}
+
+// Numbers of at most 65,535.
+pub fn numbers_of(heap: Global, words: &[&str]) -> Result<Vec<u16>, Refusal> {
+    words.iter().map(|word| number_of(word)).try_collect(heap)
+}
+
+// The words in front of `room N`, and N; or all words, and as many bytes as any tag can need.
+pub fn room_of<'w, 'a>(words: &'w [&'a str]) -> Result<(&'w [&'a str], usize), Refusal> {
+    match words {
+        [front @ .., "room", room] => {
+            let room: u16 = number_of(room)?;
+            Ok((front, usize::from(room)))
         }
-    }
-    Ok(words)
-}
-
-// A place, of at most 255: a rack says itself which places it has.
-pub fn place_number(word: &str) -> Option<u8> {
-    match number(word.as_bytes(), MOST_PLACE) {
-        Some(n) => u8::try_from(n).ok(),
-        None => None,
+        _ => Ok((words, MOST_TAG_BYTES)),
     }
 }
 
-// A number of at most a thousand millions: how much memory is to be handed in.
-pub fn large_number(word: &str) -> Option<u32> {
-    number(word.as_bytes(), MOST_ROOM)
-}
-
-// A number of at most 65,535.
-pub fn small_number(word: &str) -> Option<u16> {
-    match number(word.as_bytes(), MOST_NUMBER) {
-        Some(n) => u16::try_from(n).ok(),
-        None => None,
-    }
-}
-
-// Such numbers, or None where a word is none.
-pub fn small_numbers(heap: Global, words: &[&str]) -> Result<Option<Vec<u16>>, AllocError> {
-    let mut all = Vec::with_capacity(heap, words.len())?;
-    for word in words {
-        match small_number(word) {
-            Some(n) => all.push(n)?,
-            None => return Ok(None),
-        }
-    }
-    Ok(Some(all))
-}
-
-// The value of a hexadecimal digit.
-fn hex_value(b: u8) -> Option<u8> {
+// The value of a hexadecimal digit; a script has no capital ones.
+fn digit_of(b: u8) -> Result<u8, Refusal>
+    ensures { IfOk result (λ digit. digit < 16) }
+{
     match b {
-        b'0'..=b'9' => Some(b - b'0'),
-        b'a'..=b'f' => Some(b - b'a' + 10),
-        _ => None,
+        b'0'..=b'9' => Ok(b - b'0'),
+        b'a'..=b'f' => Ok(b - b'a' + 10),
+        _ => Err(Refusal::NotUnderstood),
     }
 }
 
-// The bytes of hexadecimal digits, two to a byte, or None where they are malformed.
-fn hex_bytes(heap: Global, digits: &[u8]) -> Result<Option<Vec<u8>>, AllocError> {
-    if digits.len() % 2 == 1 {
-        return Ok(None);
+// The byte that two hexadecimal digits write.
+fn byte_of(pair: &[u8]) -> Result<u8, Refusal> {
+    match pair {
+        [high, low] => Ok(digit_of(*high)? * 16 + digit_of(*low)?),
+        _ => Err(Refusal::NotUnderstood),
     }
-    let mut bytes = Vec::with_capacity(heap, digits.len() / 2)?;
-    for pair in digits.chunks_exact(2) {
-        match (hex_value(pair[0]), hex_value(pair[1])) {
-            (Some(high), Some(low)) => bytes.push((high & 15) * 16 + (low & 15))?,
-            _ => return Ok(None),
-        }
-    }
-    Ok(Some(bytes))
 }
 
 // A tag as a script writes it: its bytes, or a node of the present sheet.
@@ -107,23 +81,27 @@ pub enum TagWord {
 }
 
 // A word that stands for a tag: hexadecimal, or `@` and a node number.
-pub fn tag_word(heap: Global, word: &str) -> Result<Option<TagWord>, AllocError> {
-    match word.as_bytes() {
-        [b'@', digits @ ..] => match number(digits, MOST_NUMBER) {
-            Some(v) => Ok(Some(TagWord::Node((v & 0xffff) as u16))),
-            None => Ok(None),
-        },
-        digits => match hex_bytes(heap, digits)? {
-            Some(bytes) => Ok(Some(TagWord::Bytes(bytes))),
-            None => Ok(None),
-        },
+pub fn tag_word(heap: Global, word: &str) -> Result<TagWord, Refusal> {
+    if let Some(node) = word.strip_prefix('@') {
+        return Ok(TagWord::Node(number_of(node)?));
     }
+    let bytes = word
+        .as_bytes()
+        .chunks(2)
+        .map(|pair| byte_of(pair))
+        .try_collect(heap)?;
+    Ok(TagWord::Bytes(bytes))
 }
 
-// Adds bytes as hexadecimal digits.
-pub fn add_hex(bytes: &[u8], out: &mut Vec<u8>) -> io::Result<()> {
-    for b in bytes {
-        write!(out, "{b:02x}")?;
+// Bytes, printed as hexadecimal digits.
+#[derive(Clone, Copy)]
+pub struct Hex<'a>(pub &'a [u8]);
+
+impl fmt::Display for Hex<'_> {
+    fn fmt<W: fmt::Write>(&self, f: &mut fmt::Formatter<W>) -> fmt::Result {
+        for b in self.0 {
+            write!(f, "{b:02x}")?;
+        }
+        Ok(())
     }
-    Ok(())
 }

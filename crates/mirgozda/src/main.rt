@@ -2,6 +2,8 @@
 #![tactic(auto)]
 
 mod answer;
+mod any_host;
+mod bench;
 mod coding;
 mod drawer;
 mod hosts;
@@ -9,12 +11,15 @@ mod jobs;
 mod line;
 mod parts;
 mod pressing;
+mod refusal;
 mod scans;
 mod state;
 
 use answer::carry_out;
-use jobs::abandon_one;
-use line::{is_passed_over, not_understood, split_words};
+use drawer::PLACES;
+use jobs::say_abandoned;
+use line::{is_passed_over, split_words};
+use refusal::Refusal;
 use state::State;
 use std::io;
 use std::io::{BufRead, BufReader, Write};
@@ -34,15 +39,15 @@ fn answer_words(
     state: &mut State,
     line: &[u8],
     out: &mut Vec<u8>,
-) -> io::Result<()> {
+) -> Result<(), Refusal> {
     let Ok(text) = std::str::from_utf8(line) else {
-        return not_understood(out);
+        return Err(Refusal::NotUnderstood);
     };
     let words = split_words(state.heap, text)?;
     carry_out(rt, state, words.as_slice(), out)
 }
 
-// Prints a line again with its answer. A want of memory is said, and the script goes on.
+// Prints a line again with its answer, or with why there is none. A want of memory is said so too, and the script goes on.
 fn answer_line(
     rt: &HostRuntime,
     state: &mut State,
@@ -60,7 +65,7 @@ fn answer_line(
     rt.write_all(out.as_slice())?;
     match done {
         Ok(()) => Ok(()),
-        Err(e) => println!(rt; "failed: {e}"),
+        Err(refusal) => println!(rt; "{refusal}"),
     }
 }
 
@@ -86,8 +91,10 @@ fn run(rt: &HostRuntime, state: &mut State) -> io::Result<()> {
 // Abandons each ticket that is still in hand, in the order of the places.
 fn abandon_all(rt: &HostRuntime, state: &mut State) -> io::Result<()> {
     let mut out = Vec::new(state.heap);
-    for place in 0..=255u8 {
-        let _ = abandon_one(state, place, &mut out)?;
+    for place in 0..PLACES {
+        if let Some(emptied) = state.bench.abandon(place) {
+            say_abandoned(place, emptied, &mut out)?;
+        }
     }
     rt.write_all(out.as_slice())
 }

@@ -4,25 +4,22 @@ ghost use Rattle.std.specs.Option.{option_map};
 ghost use Rattle.texts.specs.PartsList.{list_levels};
 
 use std::alloc::{AllocError, Global};
-use texts::{level, split_line, trim_return};
+use texts::{level, trim_return};
 
 // The levels of the lines of a parts list that are not empty, or None where one of them begins with none.
 pub fn levels_of_text(heap: Global, text: &[u8]) -> Result<Option<Vec<u16>>, AllocError>
     ensures { IfOk result (λ o. option_map vec_items o ≡ list_levels text.now) }
 {
     let mut all = Vec::new(heap);
-    let mut rest = text;
-    for _ in 0..text.len() {
-        let (line, more) = split_line(rest);
-        rest = more;
+    for line in text.split(|b| *b == b'\n') {
         let line = trim_return(line);
         if line.is_empty() {
             continue;
         }
-        match level(line) {
-            Some(n) => all.push(n)?,
-            None => return Ok(None),
-        }
+        let Some(n) = level(line) else {
+            return Ok(None);
+        };
+        all.push(n)?;
     }
     Ok(Some(all))
 }

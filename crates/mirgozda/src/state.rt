@@ -1,40 +1,53 @@
 // What a script has at hand.
+use crate::any_host::{AnyHost, Source};
+use crate::bench::Bench;
 use crate::coding::Coding;
-use crate::drawer::Drawer;
-use racks::rack::Rack;
+use crate::line::TagWord;
+use crate::refusal::Refusal;
+use sheets::look::look_up;
 use std::alloc::Global;
-use trees::rule::RuleHost;
 
-// The present host, by what it was made from.
-#[derive(Drop)]
-pub enum Source {
-    Absent,
-    Levels(Vec<u16>),
-    Rule(RuleHost),
-}
-
-// The tickets in the drawer cannot be let go, so neither can this: `end` spends them.
+// The tickets on the bench cannot be let go, so neither can this: `end` spends them.
 pub struct State {
     pub heap: Global,
-    pub source: Source,
+    pub source: Option<Source>,
     pub coding: Coding,
     pub sheet: Option<Vec<u8>>,
-    // Whether a rack was made yet; before the first there is one that no command reaches.
-    pub racked: bool,
-    pub rack: Rack,
-    pub drawer: Drawer,
+    pub bench: Bench,
 }
 
 impl State {
     pub fn new(heap: Global) -> State {
         State {
             heap,
-            source: Source::Absent,
+            source: None,
             coding: Coding::GilbertMoore,
             sheet: None,
-            racked: false,
-            rack: Rack::new(0, 0),
-            drawer: Drawer::new(),
+            bench: Bench::new(),
+        }
+    }
+
+    // The present host.
+    pub fn host(&self) -> Result<AnyHost<'_>, Refusal> {
+        match &self.source {
+            Some(source) => Ok(source.host()),
+            None => Err(Refusal::NoHost),
+        }
+    }
+
+    // The bytes of the present sheet.
+    pub fn sheet(&self) -> Result<&[u8], Refusal> {
+        match &self.sheet {
+            Some(sheet) => Ok(sheet.as_slice()),
+            None => Err(Refusal::NoSheet),
+        }
+    }
+
+    // The bytes that a word stands for; those of a node are looked up on the present sheet.
+    pub fn tag(&self, word: TagWord) -> Result<Vec<u8>, Refusal> {
+        match word {
+            TagWord::Bytes(bytes) => Ok(bytes),
+            TagWord::Node(v) => Ok(look_up(self.sheet()?, v)?.to_vec(self.heap)?),
         }
     }
 
@@ -45,10 +58,8 @@ impl State {
             source: _,
             coding: _,
             sheet: _,
-            racked: _,
-            mut rack,
-            drawer,
+            bench,
         } = self;
-        drawer.end(&mut rack);
+        bench.end();
     }
 }

@@ -1,48 +1,56 @@
-use Rattle.std.proofs.Common.{◌≡◌, ◌+◌, ◌-◌, length, Some, None, vec_items, sym, ap, ◌∙◌, arith}
-use Rattle.texts.specs.Lines.{without_return}
-use Rattle.texts.specs.PartsList.{levels_of}
-use Rattle.mirgozda.proofs.Levels.{after, after_all, after_none, after_one, skipped, taken}
+use Rattle.std.proofs.Common.{◌≡◌, ◌+◌, length, drop, Some, None, vec_items, sym, ap, ◌∙◌, rules, arith}
+use Rattle.std.proofs.lemmas.Iterator.Consumers.{YieldsList-turn, YieldsList-end}
+use Rattle.std.proofs.lemmas.Iterator.Splits.{YieldsList-from_slice_split}
+use Rattle.std.proofs.lemmas.List.{length_push, drop_all}
+use Rattle.std.specs.List.{slice_split}
+use Rattle.std.specs.Slice.Iter.{split_rest, split_done, split_callee}
+use Rattle.mirgozda.proofs.Levels.{is_feed, levels_in, after, after_all, after_one, begins, skipped, taken}
 use Rattle.mirgozda.proofs.parts.levels_of_text.Goals as goal
 
-pub loop-init : goal.loop-init
-loop-init c =
-    let text = c.args.text.now in
-    let z : length text - 0 ≡ length text = omega arith in
-    ap (λ xs. after xs (levels_of (length text - 0) text)) c.new-all.ensures.items
-    ∙ (after_none (levels_of (length text - 0) text) ∙ ap (λ k. levels_of k text) z)
+pub loop-line-init : goal.loop-line-init
+loop-line-init c = begins (vec_items c.new-all.result) c.args.text.now c.new-all.ensures.items
 
-pub returns-in-None : goal.returns-in-None
-returns-in-None c =
-    let t =
-    taken (length c.args.text.now) c.loop.counter c.loop.rest.now c.trim_return-line.result.now c.split_line.result.1.now
-    c.loop-test.true (c.trim_return-line.ensures ∙ ap without_return c.split_line.ensures.line) c.split_line.ensures.rest
-    None (sym c.is_empty.ensures ∙ c.if-is_empty.false) c.in-None.ensures in
-    sym (ap (after (vec_items c.loop.all)) t) ∙ c.loop.invariant
+pub loop-line-preserved-then-is_empty : goal.loop-line-preserved-then-is_empty
+loop-line-preserved-then-is_empty c =
+    let i = c.into_iter-line-iterator.ensures.into_iter_gives in
+    let e = c.split-line-items.ensures in
+    let parts = slice_split is_feed c.args.text.now in
+    let t = YieldsList-turn (YieldsList-from_slice_split _ is_feed c.args.text.now (ap split_rest i ∙ e.rest) (ap split_done i ∙ e.done) (ap split_callee i ∙ e.closure) (λ x b q k. search rules)) c.loop-line.yielded _ c.loop-line.yielded_by _ _ c.in-Some.line c.in-Some.is c.next.ensures.steps in
+    let s = skipped parts (length c.loop-line.yielded) c.in-Some.line.now c.trim_return-line.result.now t c.trim_return-line.ensures (sym c.is_empty.ensures ∙ c.if-is_empty.true) in
+    ap (λ n. after (vec_items c.loop-line.all) (levels_in (drop n parts))) (length_push c.loop-line.yielded c.in-Some.line)
+    ∙ (sym (ap (after (vec_items c.loop-line.all)) s) ∙ c.loop-line.invariant)
 
-pub loop-preserved-then-is_empty : goal.loop-preserved-then-is_empty
-loop-preserved-then-is_empty c =
-    let t =
-    skipped (length c.args.text.now) c.loop.counter c.loop.rest.now c.trim_return-line.result.now c.split_line.result.1.now
-    c.loop-test.true (c.trim_return-line.ensures ∙ ap without_return c.split_line.ensures.line) c.split_line.ensures.rest
-    (sym c.is_empty.ensures ∙ c.if-is_empty.true) in
-    sym (ap (after (vec_items c.loop.all)) t) ∙ c.loop.invariant
+pub returns-in_default : goal.returns-in_default
+returns-in_default c =
+    let i = c.into_iter-line-iterator.ensures.into_iter_gives in
+    let e = c.split-line-items.ensures in
+    let parts = slice_split is_feed c.args.text.now in
+    let t = YieldsList-turn (YieldsList-from_slice_split _ is_feed c.args.text.now (ap split_rest i ∙ e.rest) (ap split_done i ∙ e.done) (ap split_callee i ∙ e.closure) (λ x b q k. search rules)) c.loop-line.yielded _ c.loop-line.yielded_by _ _ c.in-Some.line c.in-Some.is c.next.ensures.steps in
+    let s =
+    taken parts (length c.loop-line.yielded) c.in-Some.line.now c.trim_return-line.result.now t c.trim_return-line.ensures None
+    (sym c.is_empty.ensures ∙ c.if-is_empty.false) c.in_default.ensures in
+    sym (ap (after (vec_items c.loop-line.all)) s) ∙ c.loop-line.invariant
 
-pub loop-preserved : goal.loop-preserved
-loop-preserved c =
-    let n = length c.args.text.now in
-    let i = c.loop.counter in
-    let more = c.split_line.result.1.now in
-    let t =
-    taken n i c.loop.rest.now c.trim_return-line.result.now more
-    c.loop-test.true (c.trim_return-line.ensures ∙ ap without_return c.split_line.ensures.line) c.split_line.ensures.rest
-    (Some c.in-Some.n) (sym c.is_empty.ensures ∙ c.if-is_empty.false) c.in-Some.ensures in
-    ap (λ xs. after xs (levels_of (n - (i + 1)) more)) c.in_ok-push-in-Some.ensures.items
-    ∙ (after_one (vec_items c.loop.all) c.in-Some.n (levels_of (n - (i + 1)) more)
-    ∙ (sym (ap (after (vec_items c.loop.all)) t) ∙ c.loop.invariant))
+pub loop-line-preserved : goal.loop-line-preserved
+loop-line-preserved c =
+    let i = c.into_iter-line-iterator.ensures.into_iter_gives in
+    let e = c.split-line-items.ensures in
+    let parts = slice_split is_feed c.args.text.now in
+    let n = length c.loop-line.yielded in
+    let t = YieldsList-turn (YieldsList-from_slice_split _ is_feed c.args.text.now (ap split_rest i ∙ e.rest) (ap split_done i ∙ e.done) (ap split_callee i ∙ e.closure) (λ x b q k. search rules)) c.loop-line.yielded _ c.loop-line.yielded_by _ _ c.in-Some.line c.in-Some.is c.next.ensures.steps in
+    let s =
+    taken parts n c.in-Some.line.now c.trim_return-line.result.now t c.trim_return-line.ensures (Some c.in-Some-level.n)
+    (sym c.is_empty.ensures ∙ c.if-is_empty.false) c.in-Some-level.ensures in
+    ap (λ n. after (vec_items c.push.new.self) (levels_in (drop n parts))) (length_push c.loop-line.yielded c.in-Some.line)
+    ∙ (ap (λ xs. after xs (levels_in (drop (n + 1) parts))) c.in_ok-push.ensures.items
+    ∙ (after_one (vec_items c.loop-line.all) c.in-Some-level.n (levels_in (drop (n + 1) parts))
+    ∙ (sym (ap (after (vec_items c.loop-line.all)) s) ∙ c.loop-line.invariant)))
 
 pub returns : goal.returns
 returns c =
-    let n = length c.args.text.now in
-    let z : n - c.loop.counter ≡ 0 = omega arith in
-    sym (after_all (vec_items c.loop.all))
-    ∙ (sym (ap (λ k. after (vec_items c.loop.all) (levels_of k c.loop.rest.now)) z) ∙ c.loop.invariant)
+    let i = c.into_iter-line-iterator.ensures.into_iter_gives in
+    let e = c.split-line-items.ensures in
+    let parts = slice_split is_feed c.args.text.now in
+    let t = YieldsList-end (YieldsList-from_slice_split _ is_feed c.args.text.now (ap split_rest i ∙ e.rest) (ap split_done i ∙ e.done) (ap split_callee i ∙ e.closure) (λ x b q k. search rules)) c.loop-line.yielded _ c.loop-line.yielded_by _ _ c.in-None.is c.next.ensures.steps in
+    sym (after_all (vec_items c.loop-line.all))
+    ∙ (sym (ap (λ ls. after (vec_items c.loop-line.all) (levels_in ls)) (drop_all (length c.loop-line.yielded) parts (omega (arith, t.1)))) ∙ c.loop-line.invariant)
