@@ -1,11 +1,17 @@
 -- Reading a parts list line by line.
-use Rattle.std.proofs.Common.{◌≡◌, ℕ, zero, suc, ◌+◌, ◌-◌, ◌<◌, ◌≤◌, Bool, true, false, cond, not, eqb, ltb, List, [], ◌∷◌, ◌++◌, length, take, drop, get_or, Some, None, Option, sym, refl, ap, ◌∙◌, append_assoc, append-nil, arith, length-drop}
+use Rattle.std.proofs.Common.{◌≡◌, ℕ, zero, suc, ◌+◌, ◌<◌, ◌≤◌, Bool, true, false, cond, not, eqb, ltb, List, [], ◌∷◌, ◌++◌, length, drop, get_or, Some, None, Option, Bor, sym, refl, ap, ◌∙◌, append_assoc, append-nil, arith, length-drop}
+use Rattle.std.proofs.lemmas.Iterator.{YieldsList}
+use Rattle.std.proofs.lemmas.Iterator.Splits.{YieldsList-from_slice_split}
 use Rattle.std.proofs.lemmas.List.{take_all, drop_all, at_drop_more}
 use Rattle.std.proofs.lemmas.List.Elements.{All-from_get_or}
 use Rattle.std.proofs.lemmas.List.Splits.{slice_split_none, slice_split_first}
 use Rattle.std.proofs.lemmas.List.Sums.{prefix_len_passes}
 use borrow.Author.Tests.{ltb-true, ltb-false}
-use Rattle.std.specs.List.{slice_split, position_or_len, All}
+use Rattle.std.specs.Fn.{CalledAt}
+use Rattle.std.specs.List.{slice_split, position_or_len}
+use Rattle.std.specs.Slice.Iter.{split_rest, split_done, split_callee, split_steps}
+use Rattle.std.specs.declared.slice.Split.{Split}
+use denote.Param.Members.{Mut}
 use Rattle.texts.specs.Lines.{in_line, line_of, after_line, without_return}
 use Rattle.texts.specs.PartsList.{level_of, in_front, line_then, levels_of, list_levels}
 
@@ -63,6 +69,12 @@ in_parts (suc k) bs h =
 
 pub begins : (xs bs : List ℕ) → xs ≡ [] → after xs (levels_in (slice_split is_feed bs)) ≡ list_levels bs
 begins xs bs e = ap (λ xs. after xs (levels_in (slice_split is_feed bs))) e ∙ (after_none (levels_in (slice_split is_feed bs)) ∙ sym (in_parts (length bs) bs (omega arith)))
+
+-- what a split of the text yields
+pub yields :
+    {F : Type 0} (g : Mut F (Bor ℕ × Unit {0}) Bool) {s t : Split ℕ F} {f : F} (bs : List ℕ) → t ≡ s → split_rest s ≡ bs → split_done s ≡ false → split_callee s ≡ f
+    → ((x : ℕ) (b : Bool) (q : F) → CalledAt g f x b q → (q ≡ f) × (b ≡ is_feed x)) → YieldsList (split_steps g) (λ x. x.now) t (slice_split is_feed bs)
+yields g bs i r d h k = YieldsList-from_slice_split g is_feed bs (ap split_rest i ∙ r) (ap split_done i ∙ d) (ap split_callee i ∙ h) k
 
 -- One turn: the line l, which is the one at n, without its return.
 module _ (ls : List (List ℕ)) (n : ℕ) (l line : List ℕ) (at : (n < length ls) × (l ≡ get_or ls n l)) (is : line ≡ without_return l) where

@@ -69,6 +69,7 @@ fn answer_line(
     }
 }
 
+// Answers each line of the input. The lines are counted, since a loop is proved to end.
 fn run(rt: &HostRuntime, state: &mut State) -> io::Result<()> {
     let mut input = BufReader::new(rt.alloc(), rt.stdin())?;
     let mut line = Vec::new(state.heap);

@@ -15,8 +15,7 @@ struct Bits<'a>(FieldWord<'a>);
 
 impl fmt::Display for Bits<'_> {
     fn fmt<W: fmt::Write>(&self, f: &mut fmt::Formatter<W>) -> fmt::Result {
-        for t in 0..self.0.len {
-            let bit = self.0.bit(t) == Some(true);
+        for bit in (0..self.0.len).filter_map(|t| self.0.bit(t)) {
             f.write_str(if bit { "1" } else { "0" })?;
         }
         Ok(())
@@ -44,10 +43,8 @@ pub fn read(state: &State, rest: &[&str], out: &mut Vec<u8>) -> Result<(), Refus
     let count = tag.count();
     let depth = tag.last_depth();
     writeln!(out, "tree {number} fields {count} depth {depth}")?;
-    for i in 0..usize::from(count) {
-        if let Some(field) = tag.field(i) {
-            say_field(field, out)?;
-        }
+    for field in (0..usize::from(count)).filter_map(|i| tag.field(i)) {
+        say_field(field, out)?;
     }
     Ok(())
 }
