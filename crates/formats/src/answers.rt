@@ -33,6 +33,21 @@ pub enum Side {
     Second,
 }
 
+impl Side {
+    ghost use Rattle.std.specs.Prelude.{◌≡◌};
+    ghost use Rattle.formats.specs.Pairs.{side_of};
+
+    // Of one thing for each side, the one for this side.
+    pub fn of<T: Copy>(self, first: T, second: T) -> T
+        ensures { result ≡ side_of self first second }
+    {
+        match self {
+            Side::First => first,
+            Side::Second => second,
+        }
+    }
+}
+
 impl fmt::Display for Side {
     ghost output = { λ s. Some (side_text s) };
 

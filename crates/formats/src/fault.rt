@@ -57,6 +57,7 @@ impl PairRefusal {
     pub fn number(&self) -> u8
         ensures { result ≡ pair_number_of self.now }
     {
+        // A match, since a variant that carries a fault can have no number of its own.
         match self {
             PairRefusal::OneTag { side: _, fault } => fault.number(),
             PairRefusal::TreeNumbers => 20,
@@ -79,6 +80,7 @@ impl CutRefusal {
     pub fn number(&self) -> u8
         ensures { result ≡ cut_number_of self.now }
     {
+        // A match, as above.
         match self {
             CutRefusal::InTag { fault } => fault.number(),
             CutRefusal::Fields => 22,
