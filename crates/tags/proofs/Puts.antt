@@ -1,8 +1,7 @@
--- One `put` after another.
-use Rattle.std.proofs.Common.{◌≡◌, ℕ, ◌+◌, ◌-◌, ◌*◌, ◌/◌, ◌%◌, ◌<◌, ◌≤◌, List, [], ◌∷◌, ◌++◌, length, get_or, take, drop, sym, refl, ap, ◌∙◌, append_assoc, arith}
+-- The parts of an output, each written over.
+use Rattle.std.proofs.Common.{◌≡◌, ℕ, ◌+◌, ◌-◌, ◌*◌, ◌/◌, ◌%◌, ◌<◌, ◌≤◌, List, [], ◌∷◌, ◌++◌, length, get_or, set, drop, sym, refl, ap, ◌∙◌, append_assoc, arith}
 use Rattle.std.specs.List.{between}
-use Rattle.std.proofs.lemmas.List.Edits.{length-between}
-use Rattle.std.proofs.lemmas.List.{take_at, drop_at, drop-drop, length-append}
+use Rattle.std.proofs.lemmas.List.{drop-drop}
 use Rattle.formats.specs.Layout.{count_of, end_at, spare_of}
 use Rattle.formats.proofs.Readable.{is_readable}
 use Rattle.formats.proofs.Spans.{span}
@@ -10,32 +9,38 @@ use Rattle.tags.specs.declared.tag.Tag.{Tag}
 use Rattle.tags.specs.Views.{raw}
 use Rattle.formats.proofs.Cutting.{cut_with, last_of, cleared}
 
--- xs stands at the front of o, in the place of the first `at` bytes of d
-abbrev pub Wrote : List ℕ → List ℕ → ℕ → List ℕ → Type 0
-Wrote d xs at o = (o ≡ xs ++ drop at d) × (length xs ≡ at)
+-- what is left of a list, and of what is left
+pub down : (d r s : List ℕ) (a n b : ℕ) → r ≡ drop a d → s ≡ drop n r → a + n ≡ b → s ≡ drop b d
+down d r s a n b e f q = f ∙ ap (drop n) e ∙ drop-drop n a d ∙ ap (λ k. drop k d) q
 
-pub put_more : (d xs s o p : List ℕ) (at to : ℕ) → Wrote d xs at o → p ≡ take at o ++ (s ++ drop (at + length s) o) → at + length s ≡ to → Wrote d (xs ++ s) to p
-put_more d xs s o p at to w e n =
-    let front : take at o ≡ xs = ap (take at) w.0 ∙ take_at xs (drop at d) at w.1 in
-    let past : drop at o ≡ drop at d = ap (drop at) w.0 ∙ drop_at xs (drop at d) at w.1 in
-    let back : drop (at + length s) o ≡ drop to d = sym (drop-drop (length s) at o) ∙ ap (drop (length s)) past ∙ drop-drop (length s) at d ∙ ap (λ k. drop k d) n in
-    (e ∙ (λ t. front t ++ (s ++ back t)) ∙ sym (append_assoc xs s (drop to d)), length-append xs s ∙ ap (λ k. k + length s) w.1 ∙ n)
+none : (xs : List ℕ) → length xs ≡ 0 → xs ≡ []
+none [] e = refl
+none (x ∷ xs) e = absurd (omega (arith, e))
 
-pub put_last : (d xs o p : List ℕ) (b v at to : ℕ) → Wrote d xs at o → p ≡ take at o ++ ((b ∷ []) ++ drop (at + 1) o) → b ≡ v → at + 1 ≡ to → p ≡ (xs ++ (v ∷ [])) ++ drop to d
-put_last d xs o p b v at to w e same n = (put_more d xs (b ∷ []) o p at to w e n).0 ∙ ap (λ y. (xs ++ (y ∷ [])) ++ drop to d) same
+one_set : (xs : List ℕ) (v : ℕ) → length xs ≡ 1 → set xs 0 v ≡ v ∷ []
+one_set [] v e = absurd (omega (arith, e))
+one_set (x ∷ xs) v e = ap (λ (ys : List ℕ). v ∷ ys) (none xs (omega (arith, e)))
+
+first_set : (xs : List ℕ) (v : ℕ) → 0 < length xs → set xs 0 v ≡ v ∷ drop 1 xs
+first_set [] v l = absurd (omega (arith, l))
+first_set (x ∷ xs) v l = refl
+
+six : (a c x y z v r : List ℕ) → a ++ (c ++ (x ++ (y ++ (z ++ (v ++ r))))) ≡ (((((a ++ c) ++ x) ++ y) ++ z) ++ v) ++ r
+six a c x y z v r =
+    sym (append_assoc a c _)
+    ∙ sym (append_assoc (a ++ c) x _)
+    ∙ sym (append_assoc ((a ++ c) ++ x) y _)
+    ∙ sym (append_assoc (((a ++ c) ++ x) ++ y) z _)
+    ∙ sym (append_assoc ((((a ++ c) ++ x) ++ y) ++ z) v r)
 
 -- the six parts of a cut tag, one after the other
-module _ (bs d : List ℕ) (k m l h g w : ℕ) (mk : m ≤ k) (fits : 3 * k + 4 + (l + 7) / 8 ≤ length bs) (some : 0 < l) (head : h ≡ 3 * k + 4) (cut : g ≡ 3 * m + 4) (whole : w ≡ (l + 7) / 8 - 1) where
-  pub wrote_cut : (o1 o2 o3 o4 o5 o6 : List ℕ) (b : ℕ) → o1 ≡ take 0 d ++ (between 0 2 bs ++ drop (0 + length (between 0 2 bs)) d) → o2 ≡ take 2 o1 ++ ((m ∷ []) ++ drop (2 + 1) o1) → o3 ≡ take 3 o2 ++ (between 3 (3 + 2 * m) bs ++ drop (3 + length (between 3 (3 + 2 * m) bs)) o2) → o4 ≡ take (3 + 2 * m) o3 ++ (between (3 + 2 * k) (3 + 2 * k + (m + 1)) bs ++ drop (3 + 2 * m + length (between (3 + 2 * k) (3 + 2 * k + (m + 1)) bs)) o3) → o5 ≡ take g o4 ++ (between h (h + w) bs ++ drop (g + length (between h (h + w) bs)) o4) → o6 ≡ take (g + w) o5 ++ ((b ∷ []) ++ drop (g + w + 1) o5) → b ≡ cleared (get_or bs (h + w) 0) (spare_of l) → o6 ≡ cut_with bs k m l ++ drop (3 * m + 4 + (l + 7) / 8) d
-  wrote_cut o1 o2 o3 o4 o5 o6 b e1 e2 e3 e4 e5 e6 same =
-      let last : h + w ≡ last_of k l = omega arith in
-      let w1 = put_more d [] (between 0 2 bs) d o1 0 2 (refl, refl) e1 (omega (arith, length-between bs 0 2 (omega arith))) in
-      let w2 = put_more d _ (m ∷ []) o1 o2 2 3 w1 e2 refl in
-      let w3 = put_more d _ (between 3 (3 + 2 * m) bs) o2 o3 3 (3 + 2 * m) w2 e3 (omega (arith, length-between bs 3 (3 + 2 * m) (omega arith))) in
-      let w4 = put_more d _ (between (3 + 2 * k) (3 + 2 * k + (m + 1)) bs) o3 o4 (3 + 2 * m) g w3 e4 (omega (arith, length-between bs (3 + 2 * k) (3 + 2 * k + (m + 1)) (omega arith))) in
-      let w5 = put_more d _ (between h (h + w) bs) o4 o5 g (g + w) w4 e5 (omega (arith, length-between bs h (h + w) (omega arith))) in
-      put_last d _ o5 o6 b (cleared (get_or bs (h + w) 0) (spare_of l)) (g + w) (3 * m + 4 + (l + 7) / 8) w5 e6 same (omega arith)
-      ∙ (λ t. (((((between 0 2 bs ++ (m ∷ [])) ++ between 3 (3 + 2 * m) bs) ++ between (3 + 2 * k) (3 + 2 * k + (m + 1)) bs) ++ between (head t) (last t) bs) ++ (cleared (get_or bs (last t) 0) (spare_of l) ∷ [])) ++ drop (3 * m + 4 + (l + 7) / 8) d)
+pub wrote_cut : (bs d c r : List ℕ) (k m l h e p g b : ℕ) → length c ≡ 1 → 0 < length r → drop 1 r ≡ drop (3 * m + 4 + (l + 7) / 8) d → h ≡ 3 * k + 4 → e ≡ 3 + 2 * m → p ≡ 3 + 2 * k → g ≡ last_of k l → b ≡ cleared (get_or bs g 0) (spare_of l) → between 0 2 bs ++ (set c 0 m ++ (between 3 e bs ++ (between p (p + (m + 1)) bs ++ (between h g bs ++ set r 0 b)))) ≡ cut_with bs k m l ++ drop (3 * m + 4 + (l + 7) / 8) d
+wrote_cut bs d c r k m l h e p g b one some rest head ends depths last byte =
+    let n = one_set c m one in
+    let v : b ≡ cleared (get_or bs (last_of k l) 0) (spare_of l) = byte ∙ ap (λ i. cleared (get_or bs i 0) (spare_of l)) last in
+    let s : set r 0 b ≡ cleared (get_or bs (last_of k l) 0) (spare_of l) ∷ drop (3 * m + 4 + (l + 7) / 8) d = first_set r b some ∙ (λ t. v t ∷ rest t) in
+    (λ t. between 0 2 bs ++ (n t ++ (between 3 (ends t) bs ++ (between (depths t) (depths t + (m + 1)) bs ++ (between (head t) (last t) bs ++ s t)))))
+    ∙ six (between 0 2 bs) (m ∷ []) (between 3 (3 + 2 * m) bs) (between (3 + 2 * k) (3 + 2 * k + (m + 1)) bs) (between (3 * k + 4) (last_of k l) bs) (cleared (get_or bs (last_of k l) 0) (spare_of l) ∷ []) (drop (3 * m + 4 + (l + 7) / 8) d)
 
 -- a tag has the bytes of its first fields
 pub parts_fit : (t : Tag) (m : ℕ) → m % 2 ≡ 1 → m ≤ count_of (raw t) → (0 < end_at (raw t) (m - 1)) × (3 * count_of (raw t) + 4 + (end_at (raw t) (m - 1) + 7) / 8 ≤ length (raw t))

@@ -2,29 +2,20 @@
 ghost use Rattle.std.specs.Prelude.{◌≡◌, ℕ, ◌+◌, ◌-◌, ◌*◌, ◌/◌, ◌%◌, ◌<◌, ◌≤◌, ◌++◌, length, take, drop, IfOk};
 ghost use Rattle.formats.specs.Cuts.{cut_answer, cut_output};
 ghost use Rattle.formats.specs.Theorems.{Shortened};
-ghost use Rattle.formats.specs.Layout.{count_of};
+ghost use Rattle.formats.specs.Layout.{count_of, spare_of};
 ghost use Rattle.formats.proofs.Cutting.{cut_bytes, cut_size, cleared};
 ghost use Rattle.tags.specs.Views.{raw};
 
-use crate::layout::{end_of, head_of, low_bits, spare};
+use crate::layout::{end_of, past_ends, unused};
 use crate::tag::Tag;
 use formats::fault::CutRefusal;
-use formats::layout::{COUNT_AT, ENDS_AT, NUMBER_AT, filled};
+use formats::layout::{COUNT_AT, ENDS_AT, ENTRY_BYTES, NUMBER_AT, filled, head_of};
 
-// Writes `src` over `out` from `at` on.
-fn put(out: &mut [u8], at: usize, src: &[u8])
-    requires { at + length src.now ≤ length out.old }
-    ensures { out.new ≡ take at out.old ++ (src.now ++ drop (at + length src.now) out.old) }
+// The last byte of so many bits, its unused bits 0.
+fn clear(b: u8, bits: u16) -> u8
+    ensures { result ≡ cleared b (spare_of bits) }
 {
-    let end = at + src.len();
-    out[at..end].copy_from_slice(src);
-}
-
-fn clear(b: u8, n: usize) -> u8
-    requires { n < 8 }
-    ensures { result ≡ cleared b n }
-{
-    b - low_bits(b, n)
+    b - unused(b, bits)
 }
 
 // How many bytes the first `m` fields fill as a tag.
@@ -44,21 +35,21 @@ fn write_cut(tag: &Tag, m: u8, out: &mut [u8])
 {
     let bytes = tag.bytes;
     let bits = end_of(bytes, m - 1);
-    let ends = ENDS_AT + 2 * m as usize;
-    let depths = ENDS_AT + 2 * tag.count() as usize;
-    let head = head_of(tag.count());
-    let cut_head = head_of(m);
-    let whole = filled(bits) - 1;
-    put(out, NUMBER_AT, &bytes[NUMBER_AT..COUNT_AT]);
-    put(out, COUNT_AT, &[m]);
-    put(out, ENDS_AT, &bytes[ENDS_AT..ends]);
-    put(out, ends, &bytes[depths..depths + (m as usize + 1)]);
-    put(out, cut_head, &bytes[head..head + whole]);
-    put(
-        out,
-        cut_head + whole,
-        &[clear(bytes[head + whole], spare(bits))],
-    );
+    let k = tag.count();
+    let head = head_of(k);
+    let last = head + filled(bits) - 1;
+    let depths_at = past_ends(k);
+    let (number, rest) = out.split_at_mut(COUNT_AT);
+    let (count, rest) = rest.split_at_mut(ENDS_AT - COUNT_AT);
+    let (ends, rest) = rest.split_at_mut(ENTRY_BYTES * m as usize);
+    let (depths, rest) = rest.split_at_mut(m as usize + 1);
+    let (body, rest) = rest.split_at_mut(last - head);
+    number.copy_from_slice(&bytes[NUMBER_AT..COUNT_AT]);
+    count[0] = m;
+    ends.copy_from_slice(&bytes[ENDS_AT..past_ends(m)]);
+    depths.copy_from_slice(&bytes[depths_at..depths_at + (m as usize + 1)]);
+    body.copy_from_slice(&bytes[head..last]);
+    rest[0] = clear(bytes[last], bits);
 }
 
 // Writes the first `m` fields of the tag in `bytes` as a tag over the front of `out`, and answers its length.

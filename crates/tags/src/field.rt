@@ -3,7 +3,6 @@ ghost use Rattle.std.specs.Prelude.{◌≡◌, ℕ, ◌+◌, ◌%◌};
 ghost use Rattle.tags.specs.Views.{held, len_in, bit_answer, bit_in};
 
 use crate::layout::bit as bit_of;
-use formats::layout::BYTE_BITS;
 
 // The word of a field, in the bytes that it touches: `first_bit` is its first bit in the body, `len` its length in bits.
 #[derive(Clone, Copy)]
@@ -18,11 +17,7 @@ impl FieldWord<'_> {
     pub fn bit(&self, t: usize) -> Option<bool>
         ensures { result ≡ bit_in self.now t }
     {
-        if t < self.len {
-            Some(bit_of(self.bytes, self.first_bit % BYTE_BITS, t))
-        } else {
-            None
-        }
+        (t < self.len).then_some(bit_of(self.bytes, self.first_bit, t))
     }
 }
 

@@ -3,7 +3,7 @@ ghost use Rattle.std.specs.Prelude.{◌≡◌, ℕ, ◌+◌, ◌-◌, ◌*◌, �
 ghost use Rattle.formats.specs.Layout.{pair_at, count_of, end_at, begin_at, depth_at, least_at, end_step, depth_step, ends_fine, depths_fine, spare_of, bit_at};
 
 use crate::limits::{MOST_BODY_BITS, MOST_DEPTH, MOST_FIELD_BITS};
-use formats::layout::{BYTE_BITS, COUNT_AT, ENDS_AT, byte, filled, pair};
+use formats::layout::{BYTE_BITS, COUNT_AT, ENDS_AT, ENTRY_BYTES, byte, filled, pair};
 
 // How many fields a tag counts.
 pub(crate) fn count_of(bytes: &[u8]) -> u8
@@ -12,59 +12,55 @@ pub(crate) fn count_of(bytes: &[u8]) -> u8
     byte(bytes, COUNT_AT)
 }
 
+// Where what follows the first `k` ends stands: end `k`, or the depths after all of them.
+pub(crate) fn past_ends(k: u8) -> usize
+    ensures { result ≡ 3 + 2 * k }
+{
+    ENDS_AT + ENTRY_BYTES * k as usize
+}
+
 // Where field `i` ends, in bits.
 pub(crate) fn end_of(bytes: &[u8], i: u8) -> u16
     ensures { result ≡ end_at bytes.now i }
 {
-    pair(bytes, ENDS_AT + 2 * i as usize)
+    pair(bytes, past_ends(i))
 }
 
 // Where field `i` begins, in bits.
 pub(crate) fn begin_of(bytes: &[u8], i: u8) -> u16
     ensures { result ≡ begin_at bytes.now i }
 {
-    if i == 0 { 0 } else { end_of(bytes, i - 1) }
+    i.checked_sub(1).map_or(0, |before| end_of(bytes, before))
 }
 
 // Depth entry `j`.
 pub(crate) fn depth_of(bytes: &[u8], j: u8) -> u16
     ensures { result ≡ depth_at bytes.now j }
 {
-    pair(
-        bytes,
-        ENDS_AT + 2 * count_of(bytes) as usize + 2 * j as usize,
-    )
-}
-
-// Where the body of a tag of `k` fields begins.
-pub(crate) fn head_of(k: u8) -> usize
-    ensures { result ≡ 3 * k + 4 }
-{
-    3 * k as usize + 4
+    pair(bytes, past_ends(count_of(bytes)) + ENTRY_BYTES * j as usize)
 }
 
 // How many bits of the last byte of so many bits are unused.
-pub(crate) fn spare(bits: u16) -> usize
+fn spare(bits: u16) -> usize
     ensures value { result ≡ spare_of bits }
     ensures few { result < 8 }
 {
     filled(bits) * BYTE_BITS - bits as usize
 }
 
-// What the low `n` bits of a byte hold.
-pub(crate) fn low_bits(b: u8, n: usize) -> u8
-    requires { n < 8 }
-    ensures { result ≡ b % 2 ^ n }
+// What the unused bits of the last byte of so many bits hold.
+pub(crate) fn unused(b: u8, bits: u16) -> u8
+    ensures { result ≡ b % 2 ^ spare_of bits }
 {
-    b % (1 << n)
+    b % (1 << spare(bits))
 }
 
-// Bit `skip + t`, the high bit of the first byte being bit 0.
-pub(crate) fn bit(bytes: &[u8], skip: usize, t: usize) -> bool
-    requires { skip < 8 }
-    ensures { result ≡ bit_at bytes.now (skip + t) }
+// Bit `t` from `first_bit` on: the first byte is the one that has `first_bit`, and a byte's high bit comes first. The library has no bit
+// of a byte, so this is the one place that shifts.
+pub(crate) fn bit(bytes: &[u8], first_bit: usize, t: usize) -> bool
+    ensures { result ≡ bit_at bytes.now (first_bit % 8 + t) }
 {
-    let past = skip + t % BYTE_BITS;
+    let past = first_bit % BYTE_BITS + t % BYTE_BITS;
     (byte(bytes, t / BYTE_BITS + past / BYTE_BITS) >> (BYTE_BITS - 1 - past % BYTE_BITS)) % 2 == 1
 }
 
@@ -79,11 +75,8 @@ fn end_follows(before: u16, end: u16) -> bool
 fn least_of(bytes: &[u8], j: u8) -> u32
     ensures { result ≡ least_at bytes.now j }
 {
-    if j == 0 {
-        0
-    } else {
-        depth_of(bytes, j - 1) as u32 + 1
-    }
+    j.checked_sub(1)
+        .map_or(0, |before| depth_of(bytes, before) as u32 + 1)
 }
 
 // A depth is at least `least`, and not too deep.

@@ -3,7 +3,7 @@ ghost use Rattle.std.specs.Prelude.{◌≡◌, ◌+◌, ◌-◌, ◌*◌, ◌≤
 ghost use Rattle.std.proofs.Math.IntN.{sub_ℕ};
 ghost use Rattle.formats.specs.Layout.{count_of};
 ghost use Rattle.formats.specs.Models.{label_of};
-ghost use Rattle.formats.specs.Pairs.{first_apart, nth_field, clash, difference, cover, side_of, ended, relation_by, related};
+ghost use Rattle.formats.specs.Pairs.{first_apart, nth_field, clash, difference, cover, ended, relation_by, related};
 ghost use Rattle.formats.specs.Queries.{pair_fault};
 ghost use Rattle.formats.specs.Theorems.{Exact};
 ghost use Rattle.tags.specs.Views.{raw};
@@ -13,13 +13,11 @@ use crate::tag::Tag;
 use formats::answers::{Difference, Part, Related, Relation, Side};
 use formats::fault::PairRefusal;
 
-// Where the first tag has ended, alone or with the second, the cover is that tag.
-const WHERE_FIRST_ENDED: Side = Side::First;
-
 // The first field number at which a tag has ended or the words differ; none where the two cannot be of one tree.
 fn parting(first: &Tag, second: &Tag) -> Option<u8>
     ensures { MatchOption result (clash (label_of (raw first.now)) (label_of (raw second.now)) ≡ true) (λ j. (j ≡ first_apart (label_of (raw first.now)) (label_of (raw second.now))) × (clash (label_of (raw first.now)) (label_of (raw second.now)) ≡ false)) }
 {
+    // By the fields' numbers, since the answer is one; an iterator of two tags' fields would be longer than this loop.
     let shorter = first.count().min(second.count());
     for j in 0..shorter {
         let x = first.pick(j);
@@ -105,7 +103,8 @@ impl<'a> Pair<'a> {
         ensures { result ≡ cover (label_of (raw self.now.first)) (label_of (raw self.now.second)) }
     {
         let (side, fields) = match (self.first.field(self.at), self.second.field(self.at)) {
-            (None, _) => (WHERE_FIRST_ENDED, self.first.count() as usize),
+            // The first has ended, alone or with the second.
+            (None, _) => (Side::First, self.first.count() as usize),
             (Some(_), None) => (Side::Second, self.second.count() as usize),
             (Some(x), Some(y)) => match x {
                 Field::Branch { .. } => (Side::First, self.at),
@@ -119,16 +118,6 @@ impl<'a> Pair<'a> {
         Part { side, fields }
     }
 
-    // The tag on a side.
-    fn tag_on(&self, side: Side) -> Tag<'a>
-        ensures { result ≡ side_of side self.now.first self.now.second }
-    {
-        match side {
-            Side::First => self.first,
-            Side::Second => self.second,
-        }
-    }
-
     // How they stand to each other: same where both have ended, else by whether the cover is the whole of its side.
     fn relation(&self, cover: &Part) -> Relation
         ensures { result ≡ relation_by (ended (nth_field (label_of (raw self.now.first)) self.now.at) && ended (nth_field (label_of (raw self.now.second)) self.now.at)) cover.now (count_of (raw self.now.first)) (count_of (raw self.now.second)) }
@@ -136,7 +125,7 @@ impl<'a> Pair<'a> {
         if self.first.field(self.at).is_none() && self.second.field(self.at).is_none() {
             return Relation::Same;
         }
-        if cover.fields != self.tag_on(cover.side).count() as usize {
+        if cover.fields != cover.side.of(self.first.count(), self.second.count()) as usize {
             return Relation::Apart;
         }
         match cover.side {
@@ -151,7 +140,11 @@ impl<'a> Pair<'a> {
         ensures exact { Exact (label_of (raw self.now.first)) (label_of (raw self.now.second)) result }
     {
         let cover = self.cover();
-        let shared = self.tag_on(cover.side).depth(cover.fields / 2).unwrap();
+        let shared = cover
+            .side
+            .of(self.first, self.second)
+            .depth(cover.fields / 2)
+            .unwrap();
         measured(
             self.relation(&cover),
             self.first.last_depth(),

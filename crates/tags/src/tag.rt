@@ -3,12 +3,10 @@ ghost use Rattle.std.specs.Prelude.{◌≡◌, ℕ, ◌<◌, None, MatchResult, 
 ghost use Rattle.formats.specs.Faults.{tag_fault};
 
 use crate::field::{Field, FieldWord};
-use crate::layout::{
-    begin_of, count_of, depth_of, depths_rise, end_of, ends_rise, head_of, low_bits, spare,
-};
+use crate::layout::{begin_of, count_of, depth_of, depths_rise, end_of, ends_rise, unused};
 use crate::limits::MOST_FIELDS;
 use formats::fault::TagFault;
-use formats::layout::{BYTE_BITS, COUNT_AT, NUMBER_AT, filled, pair};
+use formats::layout::{BYTE_BITS, COUNT_AT, NUMBER_AT, filled, head_of, pair};
 
 // The first fault that applies.
 #[tactic(auto, unfolding(formats::specs::Faults::tag_fault))]
@@ -18,7 +16,7 @@ fn check(bytes: &[u8]) -> Result<(), TagFault>
     if bytes.len() <= COUNT_AT || pair(bytes, NUMBER_AT) == 0 {
         return Err(TagFault::Number);
     }
-    let k = bytes[COUNT_AT];
+    let k = count_of(bytes);
     if k % 2 == 0 || k > MOST_FIELDS {
         return Err(TagFault::Count);
     }
@@ -35,7 +33,8 @@ fn check(bytes: &[u8]) -> Result<(), TagFault>
     if bytes.len() != head_of(k) + filled(bits) {
         return Err(TagFault::Length);
     }
-    if low_bits(bytes[bytes.len() - 1], spare(bits)) != 0 {
+    // Its length is known here, so the last byte is there: `last` would bring a case that never comes.
+    if unused(bytes[bytes.len() - 1], bits) != 0 {
         return Err(TagFault::Spare);
     }
     Ok(())
@@ -81,22 +80,14 @@ impl<'a> Tag<'a> {
     pub fn end(&self, i: usize) -> Option<u16>
         ensures { result ≡ end_answer (raw self.now) i }
     {
-        if i < self.count() as usize {
-            Some(end_of(self.bytes, i as u8))
-        } else {
-            None
-        }
+        (i < self.count() as usize).then(|| end_of(self.bytes, i as u8))
     }
 
     // Depth entry `j`, that of the path field `2 * j`; none past the last.
     pub fn depth(&self, j: usize) -> Option<u16>
         ensures { result ≡ depth_answer (raw self.now) j }
     {
-        if j < (self.count() as usize).div_ceil(2) {
-            Some(depth_of(self.bytes, j as u8))
-        } else {
-            None
-        }
+        (j < (self.count() as usize).div_ceil(2)).then(|| depth_of(self.bytes, j as u8))
     }
 
     // The depth of the last path field: the depth of the node that the tag names.
@@ -112,6 +103,7 @@ impl<'a> Tag<'a> {
         ensures shows { shown result ≡ field_answer (raw self.now) i }
         ensures reads { said_in result ≡ nth_field (label_of (raw self.now)) i }
     {
+        // An `if`, since `then` was tried and did not prove: of a closure that calls `pick` neither fact is known to its caller.
         if i < self.count() as usize {
             Some(self.pick(i as u8))
         } else {

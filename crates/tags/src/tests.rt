@@ -14,10 +14,7 @@ const OTHER: [u8; 8] = [7, 0, 1, 2, 0, 5, 0, 0x80];
 
 // The number of the fault, or 0.
 fn fault(bytes: &[u8]) -> u8 {
-    match Tag::read(bytes) {
-        Ok(_) => 0,
-        Err(e) => e.number(),
-    }
+    Tag::read(bytes).err().map_or(0, |fault| fault.number())
 }
 
 // The number of the refusal, or 0; 100 more where it is told of the second.
@@ -122,20 +119,11 @@ fn cuts(rt: HostRuntime) -> Result<(), Fail> {
     let mut out = [9u8; 10];
     assert_eq!(rt; cut(&EXAMPLE, 1, &mut out)?, 8);
     assert_eq!(rt; out, [7u8, 0, 1, 2, 0, 0, 0, 0x40, 9, 9]);
-    match cut(&EXAMPLE, 2, &mut out) {
-        Ok(_) => Err(Fail::new("an even number")),
-        Err(e) => {
-            assert_eq!(rt; e.number(), 22);
-            Ok(())
-        },
-    }?;
-    match cut(&EXAMPLE, 3, &mut out) {
-        Ok(_) => Err(Fail::new("no room")),
-        Err(e) => {
-            assert_eq!(rt; e.number(), 23);
-            Ok(())
-        },
-    }
+    let even = cut(&EXAMPLE, 2, &mut out);
+    assert_eq!(rt; even.map_err(|e| e.number()), Err(22));
+    let no_room = cut(&EXAMPLE, 3, &mut out);
+    assert_eq!(rt; no_room.map_err(|e| e.number()), Err(23));
+    Ok(())
 }
 
 #[test]

@@ -1,6 +1,6 @@
-use Rattle.std.proofs.Common.{rules}
-use Rattle.tags.proofs.Shown.{word_bit}
+use Rattle.std.proofs.Common.{refl, ◌∙◌}
+use Rattle.tags.proofs.Shown.{bit_there}
 use Rattle.tags.proofs.field.FieldWord.bit.Goals as goal
 
-pub returns-then-t-self : goal.returns-then-t-self
-returns-then-t-self c = search (rules, word_bit)
+pub returns : goal.returns
+returns c = c.then_some.ensures ∙ bit_there c.args.self.now c.args.t _ c.bit.result refl c.bit.ensures

@@ -7,14 +7,14 @@ use Rattle.tags.proofs.pair.Pair.relate.Goals.{After-last_depth-2}
 
 pub unwrap-shared-requires : goal.unwrap-shared-requires
 unwrap-shared-requires c =
-    subst IsSome (sym (c.depth.ensures ∙ depth_there c.args.self.now c.cover-cover.result c.cover-cover.ensures c.tag_on.result c.tag_on.ensures)) refl
+    subst IsSome (sym (c.depth.ensures ∙ depth_there c.args.self.now c.cover-cover.result c.cover-cover.ensures c.of.result c.of.ensures)) refl
 
 one : (o : Option ℕ) (m n : ℕ) → o ≡ Some m → o ≡ Some n → m ≡ n
 one o m n e f = cc
 
 shared : (c : After-last_depth-2) → c.unwrap-shared.result ≡ depth_by c.args.self.now c.cover-cover.result c.cover-cover.ensures
 shared c =
-    one c.depth.result _ _ c.unwrap-shared.ensures (c.depth.ensures ∙ depth_there c.args.self.now c.cover-cover.result c.cover-cover.ensures c.tag_on.result c.tag_on.ensures)
+    one c.depth.result _ _ c.unwrap-shared.ensures (c.depth.ensures ∙ depth_there c.args.self.now c.cover-cover.result c.cover-cover.ensures c.of.result c.of.ensures)
 
 pub measured-requires : goal.measured-requires
 measured-requires c =
