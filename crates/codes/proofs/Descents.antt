@@ -1,9 +1,9 @@
 -- How the bits inside a range of items go on inside its two halves.
-use Rattle.std.proofs.Common.{◌≡◌, ℕ, zero, suc, ◌+◌, ◌-◌, ◌^◌, ◌<◌, ◌≤◌, Bool, true, false, ◌⊎◌, List, ◌∷◌, length, sym, refl, ap, ◌∙◌, inl, inr, arith}
+use Rattle.std.proofs.Common.{◌≡◌, ℕ, zero, suc, ◌+◌, ◌-◌, ◌<◌, ◌≤◌, Bool, true, false, ◌⊎◌, List, ◌∷◌, length, sym, refl, ap, ◌∙◌, inl, inr, arith}
 use Rattle.std.specs.Int.{div_ceil}
 use Rattle.std.proofs.lemmas.Bool.{cases_lt}
 use Rattle.codes.specs.Halves.{half_up, path, with_bit, word_of}
-use Rattle.codes.specs.Splits.{path_one, path_left, path_right, push_small}
+use Rattle.codes.specs.Splits.{path_one, path_left, path_right}
 use Rattle.codes.specs.declared.word.Word.{Word}
 use Rattle.codes.specs.Laws.{split_bits}
 use Rattle.codes.specs.Theorems.{Halving}
@@ -33,22 +33,18 @@ step_right (suc m) h i e two a =
     path_right m (suc m) i two (rw (← e) a)
     ∙ ap (λ (u : List Bool). true ∷ u) (rw (← e) (path_enough m (suc m - h) (suc m - h) (i - h) (omega arith) (omega arith)))
 
--- a word that goes on with a bit
-pub record GoesOn (w v : Word) (bs cs : List Bool) : Type 0 where
-  pub small : v.value < 2 ^ v.len
-  pub long : v.len + length cs ≡ w.len + length bs
-  pub same : word_of v.value v.len cs ≡ word_of w.value w.len bs
+-- the word v goes on after w with a bit, inside the left half or the right one: the room that is left, and the word in the end
+pub left_room : (w v : Word) (n h i k : ℕ) → v ≡ with_bit w false → h ≡ div_ceil n 2 → 1 < n → i < h → w.len + length (path n n i) ≤ k → v.len + length (path h h i) ≤ k
+left_room w v n h i k e f two a l = rw e (omega (arith, l, ap length (step_left n h i (omega arith) two a)))
 
-goes_on : (w v : Word) (b : Bool) (bs cs : List Bool) → w.value < 2 ^ w.len → v ≡ with_bit w b → bs ≡ b ∷ cs → GoesOn w v bs cs
-goes_on w v b bs cs h e f =
-    rw (e, f) (record { small = push_small w.value w.len b h; long = omega arith; same = refl })
+pub right_room : (w v : Word) (n h i k : ℕ) → v ≡ with_bit w true → h ≡ div_ceil n 2 → 1 < n → h ≤ i → w.len + length (path n n i) ≤ k → v.len + length (path (n - h) (n - h) (i - h)) ≤ k
+right_room w v n h i k e f two a l = rw e (omega (arith, l, ap length (step_right n h i (omega arith) two a)))
 
--- into the left half, and into the right one
-pub goes_left : (w v : Word) (n h i : ℕ) → v ≡ with_bit w false → h ≡ div_ceil n 2 → 1 < n → i < h → w.value < 2 ^ w.len → GoesOn w v (path n n i) (path h h i)
-goes_left w v n h i e f two a l = goes_on w v false _ _ l e (step_left n h i (omega arith) two a)
+pub left_word : (w v : Word) (n h i : ℕ) → v ≡ with_bit w false → h ≡ div_ceil n 2 → 1 < n → i < h → word_of v.value v.len (path h h i) ≡ word_of w.value w.len (path n n i)
+left_word w v n h i e f two a = rw (e, step_left n h i (omega arith) two a) refl
 
-pub goes_right : (w v : Word) (n h i : ℕ) → v ≡ with_bit w true → h ≡ div_ceil n 2 → 1 < n → h ≤ i → w.value < 2 ^ w.len → GoesOn w v (path n n i) (path (n - h) (n - h) (i - h))
-goes_right w v n h i e f two a l = goes_on w v true _ _ l e (step_right n h i (omega arith) two a)
+pub right_word : (w v : Word) (n h i : ℕ) → v ≡ with_bit w true → h ≡ div_ceil n 2 → 1 < n → h ≤ i → word_of v.value v.len (path (n - h) (n - h) (i - h)) ≡ word_of w.value w.len (path n n i)
+right_word w v n h i e f two a = rw (e, step_right n h i (omega arith) two a) refl
 
 pub halving : Halving
 halving = record {

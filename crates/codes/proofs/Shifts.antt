@@ -7,7 +7,6 @@ use Rattle.std.proofs.lemmas.List.Sums.{sum_by-cons}
 use Rattle.std.proofs.lemmas.Bool.{cases_lt, cases_order}
 use Rattle.codes.specs.Coding.{Balanced}
 use Rattle.codes.specs.Gilbert.{doublings, shift, cut_word, mid_word, gilbert_moore}
-use Rattle.codes.specs.Theorems.{SmallestShift}
 use Rattle.codes.specs.Sums.{sum_upto, weight_some}
 use Rattle.codes.specs.Midpoints.{twice_pow, shift_reaches, shift_stays}
 
@@ -33,11 +32,8 @@ doublings_least (suc f) w W k h = go (leb W w) refl k h (doublings_least f (w * 
     go false e zero l ih = omega (arith, leb-false W w e)
     go false e (suc m) l ih = rw (twice_pow w m) (ih m (omega arith))
 
-pub shift_least : (w W k : ℕ) → k < shift w W → w * 2 ^ k < W
-shift_least w W k h = doublings_least W w W k h
-
-pub smallest_shift : SmallestShift
-smallest_shift w W h = (shift_reaches w W h, λ c k. elim (cases_lt c (shift w W)) [ inl l ↦ absurd (omega (arith, shift_least w W c l)) | inr l ↦ l ])
+pub shift_least : (w W c : ℕ) → W ≤ w * 2 ^ c → shift w W ≤ c
+shift_least w W c l = elim (cases_lt c (shift w W)) [ inl k ↦ absurd (omega (arith, doublings_least W w W c k)) | inr k ↦ k ]
 
 pub gilbert_balanced : Balanced gilbert_moore
 gilbert_balanced ws i h l =
@@ -84,9 +80,9 @@ same_log j k h l = go (cases_order j k)
     go (inr (inr a)) = absurd (omega (arith, pow-add 2 k 1, pow_mono {i = suc k} {j = j} a, pow_pos k))
 
 -- the word that is made with a power p of two, whose logarithm is j
-pub scaled_word : (w W m j p r : ℕ) → 1 ≤ w → w ≤ W → r ≡ div_ceil W w → IsPowerOfTwo p → r ≤ p → p / 2 < max 1 r → 2 ^ j ≤ p → p < 2 * 2 ^ j
-    → record { value = m * p / W; len = j + 1 } ≡ cut_word m W (shift w W)
-scaled_word w W m j p r h l e (k, q) a b c d =
-    let s : k ≡ shift w W = power_shift w W k h l (rw (← q, ← e) a) (rw (← q, ← e) b) in
+pub scaled_word : (S w W j p r : ℕ) → 1 ≤ w → S + w ≤ W → r ≡ div_ceil W w → IsPowerOfTwo p → r ≤ p → p / 2 < max 1 r → 2 ^ j ≤ p → p < 2 * 2 ^ j
+    → record { value = (2 * S + w) * p / W; len = j + 1 } ≡ mid_word W S w
+scaled_word S w W j p r h l e (k, q) a b c d =
+    let s : k ≡ shift w W = power_shift w W k h (omega arith) (rw (← q, ← e) a) (rw (← q, ← e) b) in
     let t : j ≡ k = same_log j k (rw (← q) c) (rw (← q) d) in
-    ap₂ (λ (x i : ℕ). record { value = m * x / W; len = i + 1 }) q t ∙ ap (cut_word m W) s
+    ap₂ (λ (x i : ℕ). record { value = (2 * S + w) * x / W; len = i + 1 }) q t ∙ ap (cut_word (2 * S + w) W) s

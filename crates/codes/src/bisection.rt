@@ -12,6 +12,7 @@ use crate::word::Word;
 
 // The word that goes on, after the bits of `word`, with those of item `i` of a range of `n` items: at most 15 bits in all, since
 // 15 halvings leave one item of a longest list.
+#[tactic(auto, using(crate::proofs::Descents::left_word, crate::proofs::Descents::right_word))]
 fn descend(word: Word, n: usize, i: usize) -> Word
     requires inside { i < n }
     requires few { n ≤ most_weight }
@@ -57,6 +58,7 @@ impl Code for Bisection {
         ensures told { result ≡ answer bisection item.now.weights.now item.now.index }
         ensures halves { Halving }
     {
+        // A yes or no, and no option: this code reads the item's place alone, the other one its sums.
         if !item.accepted() {
             return Err(CodeRefusal::NotAccepted);
         }

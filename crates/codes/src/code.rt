@@ -29,12 +29,13 @@ pub trait Code {
 
     ghost laws: { (c : Self) → Lawful (words c) };
 
-    // The word of an item, or the refusal.
+    // The word of an item, or the refusal. No default with the test of the item: each code's own `word` promises more than this.
     fn word(&self, item: &Item) -> Result<Word, CodeRefusal>
         ensures told { result ≡ answer (words self.now) item.now.weights.now item.now.index };
 }
 
-// The word of one item of a list, by any code.
+// The word of one item of a list, by any code. Code and list are no struct, here and in what follows: any code takes any list.
+#[tactic(auto, using(crate::proofs::Answering::answer_fit))]
 pub fn word_at<C: Code>(code: &C, weights: &[u16], index: usize) -> Result<Word, CodeRefusal>
     ensures told { result ≡ answer (C.words code.now) weights.now index }
     ensures fit { IfOk result Fit }
@@ -43,6 +44,7 @@ pub fn word_at<C: Code>(code: &C, weights: &[u16], index: usize) -> Result<Word,
 }
 
 // The words of two items of a list, by any code. Where the first item stands before the second, so does its word.
+#[tactic(auto, using(crate::proofs::Answering::answer_ok, crate::proofs::Answering::pair_before))]
 pub fn two_words<C: Code>(
     code: &C,
     weights: &[u16],

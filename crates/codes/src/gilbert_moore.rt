@@ -11,6 +11,7 @@ use crate::item::Item;
 use crate::word::Word;
 
 // The word of an item from the sum of the weights before it, its own weight and the sum of all.
+#[tactic(auto, using(crate::proofs::Shifts::scaled_word))]
 fn middle(before: u32, weight: u32, total: u32) -> Word
     requires some { 1 ≤ weight }
     requires within { before + weight ≤ total }
@@ -33,13 +34,14 @@ impl Code for GilbertMoore {
 
     ghost laws = { λ _. gilbert_lawful };
 
-    #[tactic(auto, using(crate::proofs::Shifts::gilbert_balanced, crate::specs::Laws::gilbert_short))]
+    #[tactic(auto, using(crate::specs::Midpoints::shift_reaches, crate::proofs::Shifts::shift_least, crate::proofs::Shifts::gilbert_balanced, crate::specs::Laws::gilbert_short))]
     fn word(&self, item: &Item) -> Result<Word, CodeRefusal>
         ensures told { result ≡ answer gilbert_moore item.now.weights.now item.now.index }
         ensures smallest { SmallestShift }
         ensures balanced { Balanced gilbert_moore }
         ensures short { AtMost16 gilbert_moore }
     {
+        // A yes or no, and no option: this code reads the item's sums, the other one its place alone.
         if !item.accepted() {
             return Err(CodeRefusal::NotAccepted);
         }

@@ -2,7 +2,8 @@
 ghost use Rattle.std.specs.Prelude.{◌≡◌, ◌-◌, ◌<◌, ◌≤◌, length, slice_index};
 ghost use Rattle.codes.specs.Weighing.{most_weight, Weights, accepts, sum_before, sum_of_all, added_to, sums_at, next_index, Exactly};
 
-// The largest sum of a list that codes take.
+// The largest sum of a list that codes take. A tree of crate `trees` has as many nodes at most, so that the sizes of its parts are
+// weights that codes take; the two numbers are not tied, since codes know no trees.
 const MOST_WEIGHT: u32 = 32767;
 
 // The sum of the weights before an item, and the sum of all.
@@ -21,7 +22,7 @@ pub struct Item<'a> {
     ghost known: { sums ≡ sums_at weights.now index },
 }
 
-// A weight; 0 past the end.
+// A weight; 0 past the end. Of a list and an index, and no method: `previous` asks for a weight before there is an item there.
 fn weight_at(weights: &[u16], index: usize) -> u32
     ensures { result ≡ slice_index weights.now index }
 {
@@ -77,6 +78,7 @@ impl<'a> Item<'a> {
             return self;
         }
         let weight = self.weight();
+        // Field by field: a struct with a proved fact takes no `..self`.
         Item {
             weights: self.weights,
             index: self.index + 1,
@@ -97,6 +99,7 @@ impl<'a> Item<'a> {
         }
         let index = self.index - 1;
         let weight = weight_at(self.weights, index);
+        // As in `next`; one step for both would be told the index, the weight and whether to add it, and be no shorter.
         Item {
             weights: self.weights,
             index,
@@ -136,7 +139,8 @@ impl<'a> Item<'a> {
         weight_at(self.weights, self.index)
     }
 
-    // The sum of the weights before it; 0 where codes don't take the list.
+    // The sum of the weights before it; 0 where codes don't take the list. No option, nor in `weight` and `total`: who has asked
+    // `accepted` need not ask again.
     pub fn before(&self) -> u32
         ensures { result ≡ sum_before self.now.weights.now self.now.index }
     {

@@ -10,7 +10,7 @@ use crate::word::Word;
 // Why no words were written.
 #[derive(Clone, Copy, PartialEq, Eq, Debug)]
 pub enum EncodeRefusal {
-    // Codes don't take the list.
+    // Codes don't take the list. Found by the item's own test before any word is asked for, so there is no `CodeRefusal` to convert.
     NotAccepted,
     // The list is one that codes take, and some row is shorter than it.
     RowTooShort,
@@ -49,12 +49,14 @@ impl WordRows<'_> {
 
 // Writes the words of all items of a list, by any code, in one pass: the high and the low half of each value and its length, item
 // by item, each into a row of its own. What a row has past the list's length stays, and on refusal all stays.
+#[tactic(auto, using(crate::proofs::Accepting::accepts_index, crate::proofs::Accepting::next_more, crate::proofs::Answering::answer_ok, crate::proofs::Encoding::encoded_more))]
 pub fn encode<C: Code>(code: &C, weights: &[u16], rows: &mut WordRows) -> Result<(), EncodeRefusal>
     ensures told { result ≡ encode_answer weights.now (length rows.old.high.now) (length rows.old.low.now) (length rows.old.len.now) }
     ensures rows { Encoded (C.words code.now weights.now) (if is_ok result then length weights.now else 0) rows.old.high.now rows.old.low.now rows.old.len.now rows.new.high.now rows.new.low.now rows.new.len.now }
     ensures same { SameRows rows.old rows.new }
 {
     let mut item = Item::at(weights, 0);
+    // A refusal of the list writes nothing, so it is found before the first word.
     if !item.accepted() {
         return Err(EncodeRefusal::NotAccepted);
     }

@@ -9,7 +9,7 @@ use std::test::Fail;
 
 const THREE: [u16; 3] = [3, 2, 1];
 
-// The longest list that codes take.
+// The longest list that codes take: a number of its own, so that the tests fail where the limit is another.
 const LONGEST: usize = 32767;
 
 fn word(value: u32, len: u8) -> Result<Word, CodeRefusal> {

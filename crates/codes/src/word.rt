@@ -6,7 +6,8 @@ ghost use Rattle.codes.specs.Halves.{with_bit};
 // A value is kept as two numbers of 16 bits, its high and its low half; so many numbers have 16 bits.
 const HALF_RANGE: u32 = 65536;
 
-// The bits of a word are the `len` low bits of `value`, the high bit first.
+// The bits of a word are the `len` low bits of `value`, the high bit first. A number and a length, and no list of bits: words are
+// made by arithmetic, and rows keep them as numbers.
 #[derive(Clone, Copy, PartialEq, Eq, Debug)]
 pub struct Word {
     pub value: u32,
@@ -29,10 +30,12 @@ impl Word {
     }
 
     // The word with one bit more at its end.
+    #[tactic(auto, using(crate::specs::Splits::push_small))]
     pub(crate) fn with_bit(self, bit: bool) -> Word
         requires small { self.value < 2 ^ self.len }
         requires room { self.len < 32 }
-        ensures { result ≡ with_bit self bit }
+        ensures told { result ≡ with_bit self bit }
+        ensures small { result.value < 2 ^ result.len }
     {
         Word {
             value: 2 * self.value + u32::from(bit),
