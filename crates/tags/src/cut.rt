@@ -62,10 +62,12 @@ pub fn cut(bytes: &[u8], m: usize, out: &mut [u8]) -> Result<usize, CutRefusal>
     if m % 2 == 0 || m > tag.count() as usize {
         return Err(CutRefusal::Fields);
     }
-    let size = cut_size(&tag, m as u8);
+    // At most the count, which is a byte: the cast loses nothing, and `try_from` would be one more test.
+    let m = m as u8;
+    let size = cut_size(&tag, m);
     if out.len() < size {
         return Err(CutRefusal::Room);
     }
-    write_cut(&tag, m as u8, out);
+    write_cut(&tag, m, out);
     Ok(size)
 }

@@ -1,4 +1,5 @@
-// Where things stand in the bytes of a tag. What stands past the end is taken for 0.
+// Where things stand in the bytes of a tag. What stands past the end is taken for 0. The functions take bytes and no `Tag`, since they
+// are what reading tests the bytes with, before there is one.
 ghost use Rattle.std.specs.Prelude.{◌≡◌, ℕ, ◌+◌, ◌-◌, ◌*◌, ◌/◌, ◌%◌, ◌^◌, ◌<◌, ◌≤◌, length, slice_index};
 ghost use Rattle.formats.specs.Layout.{pair_at, count_of, end_at, begin_at, depth_at, least_at, end_step, depth_step, ends_fine, depths_fine, spare_of, bit_at};
 

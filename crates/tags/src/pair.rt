@@ -73,14 +73,12 @@ impl<'a> Pair<'a> {
         if first.tree_number() != second.tree_number() {
             return Err(PairRefusal::TreeNumbers);
         }
-        match parting(&first, &second) {
-            Some(at) => Ok(Pair {
-                first,
-                second,
-                at: at as usize,
-            }),
-            None => Err(PairRefusal::NotOneTree),
-        }
+        let at = parting(&first, &second).ok_or(PairRefusal::NotOneTree)?;
+        Ok(Pair {
+            first,
+            second,
+            at: at as usize,
+        })
     }
 
     // Where they differ.

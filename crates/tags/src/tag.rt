@@ -80,6 +80,7 @@ impl<'a> Tag<'a> {
     pub fn end(&self, i: usize) -> Option<u16>
         ensures { result ≡ end_answer (raw self.now) i }
     {
+        // Below the count, which is a byte, the cast loses nothing, and `try_from` would be one more test; so too in `depth` and `field`.
         (i < self.count() as usize).then(|| end_of(self.bytes, i as u8))
     }
 

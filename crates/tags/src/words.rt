@@ -16,7 +16,7 @@ impl FieldWord<'_> {
             .unwrap_or(shorter)
     }
 
-    // The words are the same.
+    // The words are the same: by what they share, which the queries answer with too, so that bits are compared in one place.
     pub(crate) fn same(&self, other: &FieldWord) -> bool
         ensures { result ≡ same_word (bits_in self.now) (bits_in other.now) }
     {
