@@ -1,9 +1,8 @@
 // The tickets that a script has in hand, by place.
+use racks::place::PLACES;
 use racks::rack::Rack;
 use racks::ticket::AnyTicket;
 use std::{array, mem};
-
-pub const PLACES: usize = 16;
 
 pub struct Drawer {
     slots: [Option<AnyTicket>; PLACES],

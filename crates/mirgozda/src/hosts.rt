@@ -90,8 +90,6 @@ pub fn meeting(state: &State, rest: &[&str], out: &mut Vec<u8>) -> Result<(), Re
         return Err(Refusal::NotUnderstood);
     };
     let assembly = meet(&state.host()?, *first, others)?;
-    let node = assembly.node;
-    let depth = assembly.depth;
-    writeln!(out, "meet {node} depth {depth}")?;
+    writeln!(out, "meet {assembly}")?;
     Ok(())
 }

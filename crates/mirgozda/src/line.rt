@@ -54,7 +54,7 @@ pub fn room_of<'w, 'a>(words: &'w [&'a str]) -> Result<(&'w [&'a str], usize), R
     }
 }
 
-// The value of a hexadecimal digit; a script has no capital ones.
+// The value of a hexadecimal digit. A match, since the library's forms take capital ones too, which a script has not.
 fn digit_of(b: u8) -> Result<u8, Refusal>
     ensures { IfOk result (λ digit. digit < 16) }
 {

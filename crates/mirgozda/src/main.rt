@@ -16,9 +16,9 @@ mod scans;
 mod state;
 
 use answer::carry_out;
-use drawer::PLACES;
 use jobs::say_abandoned;
 use line::{is_passed_over, split_words};
+use racks::place::PLACES;
 use refusal::Refusal;
 use state::State;
 use std::io;

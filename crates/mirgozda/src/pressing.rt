@@ -5,25 +5,29 @@ use crate::refusal::Refusal;
 use crate::state::State;
 use formats::layout::{BYTE_BITS, ENDS_AT};
 use formats::limits::MOST_FIELD_BITS;
+use rows::carrier::ROWS;
 use sheets::press::press;
 use std::fs;
 use std::io::Write;
 use trees::host::MOST_NODES;
+use writing::layout::{OFFSET_BYTES, OFFSETS_AT};
 
 // As many work numbers as any tree can need.
-const ROWS: usize = 12;
-
 const MOST_WORK: usize = ROWS * MOST_NODES as usize;
 
-// As many bytes as any sheet can need: no label has more than 29 fields.
+// No label of any tree has more fields.
 const MOST_LABEL_FIELDS: usize = 29;
 
+// As many bytes as any label can need as a tag: an end for each field, a depth for every other one, and their words.
 const MOST_LABEL_BYTES: usize = ENDS_AT
     + 2 * MOST_LABEL_FIELDS
     + (MOST_LABEL_FIELDS + 1)
     + MOST_LABEL_FIELDS * MOST_FIELD_BITS as usize / BYTE_BITS;
 
-const MOST_SHEET: usize = 8 + MOST_NODES as usize * (4 + MOST_LABEL_BYTES);
+// As many bytes as any sheet can need.
+const MOST_SHEET: usize = OFFSETS_AT
+    + OFFSET_BYTES
+    + MOST_NODES as usize * (OFFSET_BYTES + MOST_LABEL_BYTES);
 
 // Presses the present host. A refused press leaves the present sheet as it was.
 fn press_into(

@@ -18,10 +18,8 @@ pub enum Refusal {
     NoHost,
     NoSheet,
     NoRack,
-    // The present host has no tree.
-    NoTree(HostFault),
-    // Its tree lacks this node.
-    NoSuchNode(u16),
+    // The present host has no tree, or its tree lacks a node.
+    InTree(ClimbRefusal),
     // A file, by its name.
     CannotRead(String),
     CannotWrite(String),
@@ -47,8 +45,7 @@ impl fmt::Display for Refusal {
             Refusal::NoHost => write!(f, "no host"),
             Refusal::NoSheet => write!(f, "no sheet"),
             Refusal::NoRack => write!(f, "no rack"),
-            Refusal::NoTree(fault) => write!(f, "fault {fault}"),
-            Refusal::NoSuchNode(v) => write!(f, "no such node {v}"),
+            Refusal::InTree(refusal) => write!(f, "{refusal}"),
             Refusal::CannotRead(file) => write!(f, "cannot read {file}"),
             Refusal::CannotWrite(file) => write!(f, "cannot write {file}"),
             Refusal::TicketInHand { place } => write!(f, "a ticket for place {place} is in hand"),
@@ -83,16 +80,13 @@ impl<T: Drop> From<AllocFailed<T>> for Refusal {
 
 impl From<HostFault> for Refusal {
     fn from(fault: HostFault) -> Refusal {
-        Refusal::NoTree(fault)
+        Refusal::InTree(ClimbRefusal::NoTree(fault))
     }
 }
 
 impl From<ClimbRefusal> for Refusal {
     fn from(refusal: ClimbRefusal) -> Refusal {
-        match refusal {
-            ClimbRefusal::NoTree(fault) => Refusal::NoTree(fault),
-            ClimbRefusal::NoSuchNode(v) => Refusal::NoSuchNode(v),
-        }
+        Refusal::InTree(refusal)
     }
 }
 

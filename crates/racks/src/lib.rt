@@ -2,7 +2,7 @@
 #![tactic(auto)]
 
 mod held;
-mod place;
+pub mod place;
 pub mod rack;
 pub mod refusal;
 mod stage;

@@ -2,7 +2,7 @@
 use crate::held::Held;
 
 // The places of a rack are the numbers below this.
-pub(crate) const PLACES: usize = 16;
+pub const PLACES: usize = 16;
 
 #[derive(Drop)]
 pub(crate) enum Place {
