@@ -18,11 +18,8 @@ use crate::bytes::put;
 use codes::code::Code;
 use codes::rows::WordRows;
 use codes::word::{Word, joined};
-use formats::layout::{COUNT_AT, ENDS_AT, NUMBER_AT, filled};
+use formats::layout::{COUNT_AT, ENDS_AT, ENTRY_BYTES, NUMBER_AT, filled, head_of};
 use rows::finished::Marks;
-
-// The bytes of an end or a depth.
-const ENTRY_BYTES: usize = 2;
 
 // Where a path leaves the one above it: the node there, and the branch word.
 #[derive(Clone, Copy)]
@@ -105,14 +102,13 @@ fn put_label<C: Code>(
 }
 
 // How many bytes a tag has.
-#[tactic(auto, using(crate::proofs::Tagged::tag_long, crate::proofs::Tagged::tag_small))]
+#[tactic(auto, using(crate::proofs::Tagged::tag_long, crate::proofs::Tagged::tag_small, rows::proofs::Labelled::few_fields))]
 pub fn tag_size<C: Code>(marks: &Marks<C>, v: usize) -> usize
     requires { v < length marks.now.words.up.row.now }
     ensures is { (number : ℕ) → result ≡ length (row_tag (C.words marks.now.words.code.now) marks.now.words.up.row.now number v) }
     ensures small { result ≤ most_tag_bytes }
 {
-    let k = marks.fields[v] as usize;
-    ENDS_AT + ENTRY_BYTES * k + (k + 1) + filled(marks.bits[v])
+    head_of(marks.fields[v] as u8) + filled(marks.bits[v])
 }
 
 // The tag of a node, over all of an output.
