@@ -7,7 +7,8 @@ use codes::rows::WordRows;
 // How many rows there are.
 pub const ROWS: usize = 12;
 
-// Rows of one length, each by what it holds first.
+// Rows of one length, each by what it holds first. They are rows of numbers side by side, and no row of structs, since the work memory is
+// handed in as numbers.
 #[derive(Drop)]
 pub struct Rows<'a> {
     pub parent: &'a mut [u16],
@@ -33,6 +34,7 @@ impl<'a> Rows<'a> {
         requires { 12 * n ≤ length work.old }
         ensures { length result.parent.now ≡ n }
     {
+        // `chunks_exact_mut` would give each row as an option, to be unwrapped as many times, and asks that n is not 0.
         let (parent, work) = work.split_at_mut(n);
         let (size, work) = work.split_at_mut(n);
         let (heavy, work) = work.split_at_mut(n);

@@ -9,7 +9,7 @@ use codes::item::Item;
 use codes::rows::WordRows;
 use std::marker::Model;
 
-// The node that a number in a row of links stands for: 0 is none.
+// The node that a number in a row of links stands for: 0 is none. The work memory is handed in as numbers, so links are stored so.
 pub fn link(number: u16) -> Option<usize>
     ensures { result ≡ link number }
 {
@@ -63,7 +63,7 @@ impl<'a> Iterator for Links<'a> {
     }
 }
 
-// Links that rise, with a weight at each node.
+// Links that rise, with a weight at each node. Many chains run along the same links, so the node where one begins is given beside them.
 #[derive(Clone, Copy)]
 pub struct Chains<'a> {
     pub next: &'a [u16],
@@ -72,7 +72,8 @@ pub struct Chains<'a> {
     ghost weighed: { length weight.now ≡ length next.now },
 }
 
-// What words are made in: a list for the weights along one chain, and the rows that the words go to, of as many numbers each.
+// What words are made in: a list for the weights along one chain, and the rows that the words go to, of as many numbers each. The code
+// is given beside it: were it in here, each function that writes here would have to say that it stays the same.
 #[derive(Drop)]
 pub struct Desk<'a> {
     pub list: &'a mut [u16],
@@ -80,21 +81,20 @@ pub struct Desk<'a> {
     pub ghost wide: { Wide (length list.now) words.high.now words.low.now words.len.now },
 }
 
-// Puts the weights of the nodes along the links into a list, and tells how many there are.
+// Puts the weights of the nodes along the links to the front of a list, and answers that front.
 #[tactic(auto, using(crate::proofs::Runs::listed_more))]
-fn list_weights(chains: &Chains, from: usize, list: &mut [u16]) -> usize
+fn list_weights<'a>(chains: &Chains, from: usize, list: &'a mut [u16]) -> &'a [u16]
     requires inside { from < length chains.now.next.now }
     requires room { length list.old ≡ length chains.now.next.now }
-    ensures count { result ≤ length list.new }
-    ensures listed { take result list.new ≡ map (at chains.now.weight.now) (chain chains.now.next.now from) }
+    ensures { result.now ≡ map (at chains.now.weight.now) (chain chains.now.next.now from) }
 {
-    // How many there are so far is counted by hand, since it is the answer.
+    // How many there are is counted by hand, since the front is as long.
     let mut many = 0;
     for c in Links::along(chains.next, from) {
         list[many] = chains.weight[c];
         many += 1;
     }
-    many
+    &list[..many]
 }
 
 // Stores the words of a list at the nodes along the links.
@@ -123,6 +123,6 @@ pub fn code_chain<C: Code>(code: &C, chains: &Chains, from: usize, desk: &mut De
     ensures stored { Stored (C.words code.now (map (at chains.now.weight.now) (chain chains.now.next.now from))) (chain chains.now.next.now from) desk.old.words.high.now desk.old.words.low.now desk.old.words.len.now desk.new.words.high.now desk.new.words.low.now desk.new.words.len.now }
     ensures room { length desk.new.list.now ≡ length chains.now.next.now }
 {
-    let many = list_weights(chains, from, desk.list);
-    put_words(code, chains, from, &desk.list[..many], &mut desk.words);
+    let weights = list_weights(chains, from, desk.list);
+    put_words(code, chains, from, weights, &mut desk.words);
 }

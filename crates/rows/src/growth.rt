@@ -36,7 +36,7 @@ pub fn sizes(up: &Parents, size: &mut [u16])
     ensures { SizeRow up.now.row.now size.new }
 {
     size.fill(1);
-    // By index, since each turn writes at another place than its own.
+    // By index: a turn writes at another place than its own, and the root, with which `enumerate` would begin, has no parent.
     for v in (1..up.row.len()).rev() {
         let p = up.row[v] as usize;
         size[p] += size[v];
@@ -51,14 +51,10 @@ pub fn heavies(up: &Parents, size: &[u16], heavy: &mut [u16])
     ensures { HeavyRow up.now.row.now heavy.new }
 {
     heavy.fill(0);
-    // By index, since each turn writes at another place than its own.
+    // By index: a turn writes at another place than its own, and the root, with which `enumerate` would begin, has no parent.
     for v in 1..up.row.len() {
         let p = up.row[v] as usize;
-        let is_heavier = match link(heavy[p]) {
-            None => true,
-            Some(h) => size[h] < size[v],
-        };
-        if is_heavier {
+        if link(heavy[p]).is_none_or(|h| size[h] < size[v]) {
             heavy[p] = v as u16;
         }
     }
@@ -73,6 +69,7 @@ pub fn lights(grown: &Grown, light: &mut [u16])
     // A `zip` with the rows that are read was tried: after such a loop a proof knows nothing of what was written.
     for (v, place) in light.iter_mut().enumerate() {
         let size = grown.size[v];
+        // `map_or` was tried: it did not prove that its closure may subtract.
         *place = match link(grown.heavy[v]) {
             None => size,
             Some(h) => size - grown.size[h],

@@ -45,6 +45,7 @@ pub fn counts<C: Code>(words: &TreeWords<C>, bits: &mut [u16], fields: &mut [u16
     // The rows are written by index, since a turn reads another place of them.
     for (v, t) in words.top.iter().enumerate() {
         let t = *t as usize;
+        // 0 is the root here, the top of its own path, and not a mark for none.
         if t == 0 {
             bits[v] = words.path.len[v];
             fields[v] = 1;

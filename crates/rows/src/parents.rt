@@ -4,7 +4,7 @@ ghost use Rattle.rows.specs.Rows.{Rooted, parents_in};
 
 use trees::host::Host;
 
-// The row of parents of a tree.
+// The row of parents of a tree. It is read by index: a method for that would be longer, and ask for the same bound.
 #[derive(Clone, Copy)]
 pub struct Parents<'a> {
     pub row: &'a [u16],

@@ -40,6 +40,8 @@ pub fn path_words<C: Code>(code: &C, tree: &Weighed, desk: &mut Desk)
         next: grown.heavy,
         weight: tree.light,
     };
+    // By number, which is all that a turn passes on. It is a loop of its own beside that of `branch_words`: one function over the nodes
+    // where chains begin would have to ask what is known of them in either case.
     for t in 0..grown.up.row.len() {
         // A node that is no heavy child begins a path.
         if !grown.is_heavy(t) {
@@ -74,7 +76,7 @@ pub fn link_light(grown: &Grown, first: &mut [u16], next: &mut [u16])
 {
     first.fill(0);
     next.fill(0);
-    // By index, since each turn writes at another place than its own.
+    // By index: a turn writes at another place than its own, and the root, with which `enumerate` would begin, has no parent.
     for v in (1..grown.up.row.len()).rev() {
         if !grown.is_heavy(v) {
             let p = grown.up.row[v] as usize;

@@ -31,6 +31,7 @@ impl LookUpRefusal {
 fn offset(sheet: &[u8], v: u16) -> usize
     ensures { result ≡ offset_at sheet.now v }
 {
+    // By two pairs, of which a byte past the end is 0: `from_le_bytes` of a part that may not be there would be an option more.
     let at = OFFSETS_AT + OFFSET_BYTES * v as usize;
     joined(pair(sheet, at + 2), pair(sheet, at)) as usize
 }

@@ -1,10 +1,11 @@
 -- Bits of bytes: one bit set, the bits of a word written, and bytes by their bits.
-use Rattle.std.proofs.Common.{◌≡◌, ℕ, zero, suc, ◌+◌, ◌-◌, ◌*◌, ◌/◌, ◌%◌, ◌^◌, ◌<◌, ◌≤◌, Bool, true, false, cond, not, eqb, ltb, List, [], ◌∷◌, ◌++◌, length, get_or, take, drop, set, sym, refl, ap, ◌∙◌, subst, inl, inr, ⊎_elim, div-one, arith}
+use Rattle.std.proofs.Common.{◌≡◌, ℕ, zero, suc, ◌+◌, ◌-◌, ◌*◌, ◌/◌, ◌%◌, ◌^◌, ◌<◌, ◌≤◌, Bool, true, false, cond, not, eqb, List, [], ◌∷◌, ◌++◌, length, get_or, take, drop, set, sym, refl, ap, ◌∙◌, subst, inl, inr, ⊎_elim, div-one, arith}
+use Rattle.std.specs.Int.Bits.{bit_or}
 use native.Mathlib.Nat.{pow-zero, pow-succ', div-div-eq-div-mul}
 use Rattle.std.specs.List.{flat_map}
 use Rattle.std.proofs.lemmas.List.FromFn.{fill_by_all}
 use Rattle.std.proofs.lemmas.List.{length-append, set-append_left, set-append_right, get_or_append_left, get_or-append_right, length-take-le, take_more, get_or_past}
-use Rattle.std.proofs.lemmas.Bool.{cases_eq, cases_lt, eqb-true, false≢true, ltb-true}
+use Rattle.std.proofs.lemmas.Bool.{cases_eq, cases_lt, eqb-true, false≢true}
 use Rattle.codes.specs.Words.{odd, digits}
 use Rattle.formats.specs.Label.{Word}
 use Rattle.formats.specs.Words.{digit, digit_at, byte_at, pack}
@@ -57,44 +58,35 @@ same_is (x ∷ xs) [] t = absurd (false≢true t)
 same_is (x ∷ xs) (y ∷ ys) t = both (alike x y) (same xs ys) t (λ p q. let e = alike_is x y p in let ih = same_is xs ys q in cc)
 
 abbrev byte_test : ℕ → ℕ → Bool
-byte_test t x =
-    cond (get_or (byte_bits x) t false) true
-    (cond (ltb (x + 128 / 2 ^ t) 256) (same (byte_bits (x + 128 / 2 ^ t)) (set (byte_bits x) t true)) false)
+byte_test t x = same (byte_bits (bit_or x (128 / 2 ^ t))) (set (byte_bits x) t true)
 
 all_bytes : holds_below (λ t. holds_below (λ x. byte_test t x) 256) 8 ≡ true
 all_bytes = refl
 
--- a bit of a byte that is not set, set: t counts from the highest
-in_byte : (t x : ℕ) → x < 256 → t < 8 → get_or (byte_bits x) t false ≡ false → (x + 128 / 2 ^ t < 256) × (byte_bits (x + 128 / 2 ^ t) ≡ set (byte_bits x) t true)
-in_byte t x lt lt8 z =
-    let all = each_below (λ x. byte_test t x) 256 (each_below (λ t. holds_below (λ x. byte_test t x) 256) 8 all_bytes t lt8) x lt in
-    let rest = ap (λ b. cond b true (cond (ltb (x + 128 / 2 ^ t) 256) (same (byte_bits (x + 128 / 2 ^ t)) (set (byte_bits x) t true)) false)) z in
-    both (ltb (x + 128 / 2 ^ t) 256) (same (byte_bits (x + 128 / 2 ^ t)) (set (byte_bits x) t true)) (sym rest ∙ all) (λ p q. (ltb-true _ _ p, same_is _ _ q))
+-- a bit of a byte set: t counts from the highest
+in_byte : (t x : ℕ) → x < 256 → t < 8 → byte_bits (bit_or x (128 / 2 ^ t)) ≡ set (byte_bits x) t true
+in_byte t x lt lt8 = same_is _ _ (each_below (λ x. byte_test t x) 256 (each_below (λ t. holds_below (λ x. byte_test t x) 256) 8 all_bytes t lt8) x lt)
 
 -- ---- a bit of a row of bytes
 
-set_in : (i t : ℕ) (xs : List ℕ) → get_or xs i 0 < 256 → i < length xs → t < 8 → get_or (unpacked xs) (8 * i + t) false ≡ false
-    → (get_or xs i 0 + 128 / 2 ^ t < 256) × (unpacked (set xs i (get_or xs i 0 + 128 / 2 ^ t)) ≡ set (unpacked xs) (8 * i + t) true)
+set_in : (i t : ℕ) (xs : List ℕ) → get_or xs i 0 < 256 → i < length xs → t < 8
+    → unpacked (set xs i (bit_or (get_or xs i 0) (128 / 2 ^ t))) ≡ set (unpacked xs) (8 * i + t) true
 unfolding unpacked
-set_in i t [] ok lt lt8 z = absurd (omega arith)
-set_in zero t (x ∷ xs) ok lt lt8 z =
+set_in i t [] ok lt lt8 = absurd (omega arith)
+set_in zero t (x ∷ xs) ok lt lt8 =
     let e : 8 * 0 + t ≡ t = omega arith in
-    let z' : get_or (byte_bits x) t false ≡ false = sym (get_or_append_left (byte_bits x) (flat_map byte_bits xs) false t lt8) ∙ ap (λ n. get_or (byte_bits x ++ flat_map byte_bits xs) n false) (sym e) ∙ z in
-    let b = in_byte t x ok lt8 z' in
-    (b.0, ap (λ bs. bs ++ flat_map byte_bits xs) b.1 ∙ sym (set-append_left (byte_bits x) (flat_map byte_bits xs) t true lt8) ∙ ap (λ n. set (byte_bits x ++ flat_map byte_bits xs) n true) (sym e))
-set_in (suc i) t (x ∷ xs) ok lt lt8 z =
+    ap (λ bs. bs ++ flat_map byte_bits xs) (in_byte t x ok lt8) ∙ sym (set-append_left (byte_bits x) (flat_map byte_bits xs) t true lt8) ∙ ap (λ n. set (byte_bits x ++ flat_map byte_bits xs) n true) (sym e)
+set_in (suc i) t (x ∷ xs) ok lt lt8 =
     let e : 8 * suc i + t - 8 ≡ 8 * i + t = omega arith in
     let le : 8 ≤ 8 * suc i + t = omega arith in
-    let z' : get_or (unpacked xs) (8 * i + t) false ≡ false = ap (λ n. get_or (flat_map byte_bits xs) n false) (sym e) ∙ sym (get_or-append_right (byte_bits x) (flat_map byte_bits xs) 8 (8 * suc i + t) false refl le) ∙ z in
-    let ih = set_in i t xs ok (omega arith) lt8 z' in
-    (ih.0, ap (λ zs. byte_bits x ++ zs) (ih.1 ∙ ap (λ n. set (flat_map byte_bits xs) n true) (sym e)) ∙ sym (set-append_right (byte_bits x) (flat_map byte_bits xs) 8 (8 * suc i + t) true refl le))
+    let ih = set_in i t xs ok (omega arith) lt8 in
+    ap (λ zs. byte_bits x ++ zs) (ih ∙ ap (λ n. set (flat_map byte_bits xs) n true) (sym e)) ∙ sym (set-append_right (byte_bits x) (flat_map byte_bits xs) 8 (8 * suc i + t) true refl le)
 
-pub set_at_bit : (j : ℕ) (xs : List ℕ) → get_or xs (j / 8) 0 < 256 → j < 8 * length xs → get_or (unpacked xs) j false ≡ false
-    → (get_or xs (j / 8) 0 + 128 / 2 ^ (j % 8) < 256) × (unpacked (set xs (j / 8) (get_or xs (j / 8) 0 + 128 / 2 ^ (j % 8))) ≡ set (unpacked xs) j true)
-set_at_bit j xs ok lt z =
+pub set_at_bit : (j : ℕ) (xs : List ℕ) → get_or xs (j / 8) 0 < 256 → j < 8 * length xs
+    → unpacked (set xs (j / 8) (bit_or (get_or xs (j / 8) 0) (128 / 2 ^ (j % 8)))) ≡ set (unpacked xs) j true
+set_at_bit j xs ok lt =
     let e : 8 * (j / 8) + j % 8 ≡ j = omega arith in
-    let r = set_in (j / 8) (j % 8) xs ok (omega arith) (omega arith) (ap (λ n. get_or (unpacked xs) n false) e ∙ z) in
-    (r.0, r.1 ∙ ap (λ n. set (unpacked xs) n true) e)
+    set_in (j / 8) (j % 8) xs ok (omega arith) (omega arith) ∙ ap (λ n. set (unpacked xs) n true) e
 
 -- ---- the bits of a word, one after the other
 

@@ -1,4 +1,4 @@
-// A sheet, written from the rows.
+// A sheet, written from the rows. The tree number comes beside the marks, since measuring knows of none.
 ghost use Rattle.std.specs.Prelude.{◌≡◌, ℕ, ◌+◌, ◌*◌, ◌<◌, ◌≤◌, length};
 ghost use Rattle.writing.specs.Writes.{Wrote};
 ghost use Rattle.writing.specs.Sheets.{row_few, row_sheet, offsets_to, tags_to};
@@ -37,7 +37,8 @@ fn put_nodes<C: Code>(marks: &Marks<C>, number: u16, offsets: &mut [u8], tags: &
     let n = marks.words.up.row.len();
     let first = header(n as u16);
     let mut end = 0;
-    // A node's number finds its offset and its tag; of what is written through `chunks_exact_mut` a proof knows the length alone.
+    // A node's number finds its offset and its tag; of what is written through `chunks_exact_mut` a proof knows the length alone. The end
+    // is added up here: an iterator of ends beside would be asked for two of them in each turn.
     for v in 0..n {
         put(
             offsets,

@@ -59,6 +59,7 @@ fn turn_at<C: Code>(marks: &Marks<C>, v: usize) -> Option<Turn>
     ensures { MatchOption result (Straight (C.words marks.now.words.code.now) marks.now.words.up.row.now v) (λ turn. Turned (C.words marks.now.words.code.now) marks.now.words.up.row.now v turn.above turn.word) }
 {
     let top = marks.words.top[v] as usize;
+    // 0 is the root here, the top of its own path, and not a mark for none.
     if top == 0 {
         return None;
     }
