@@ -6,6 +6,7 @@ use racks::rack::Rack;
 use racks::refusal::{RackRefusal, Refused};
 use racks::ticket::{AnyTicket, StartedTicket};
 
+// Tickets cannot be let go, so neither can a bench: `end` spends them.
 pub struct Bench {
     rack: Option<Rack>,
     drawer: Drawer,
@@ -31,6 +32,7 @@ impl Bench {
         }
     }
 
+    // Opens a place, unless its ticket is in hand already.
     pub fn open(&mut self, place: usize) -> Result<(), Refusal> {
         let Some(rack) = &mut self.rack else {
             return Err(Refusal::NoRack);
@@ -43,6 +45,7 @@ impl Bench {
         Ok(())
     }
 
+    // Trades the opened ticket for a place for a started one. It is no call of `with_started`, since both kinds of ticket can be left.
     pub fn start(&mut self, place: usize, tag: &[u8]) -> Result<(), Refusal> {
         let Some(rack) = &mut self.rack else {
             return Err(Refusal::NoRack);
@@ -86,6 +89,7 @@ impl Bench {
         }
     }
 
+    // Adds a tag to what a place holds.
     pub fn add(&mut self, place: usize, tag: &[u8]) -> Result<(), Refusal> {
         if self.rack.is_none() {
             return Err(Refusal::NoRack);
@@ -112,6 +116,7 @@ impl Bench {
         })
     }
 
+    // How the nodes of the tags that two places hold stand to each other.
     pub fn compare(&self, first: usize, second: usize) -> Result<Related, Refusal> {
         match &self.rack {
             Some(rack) => Ok(rack.compare(first, second)?),
