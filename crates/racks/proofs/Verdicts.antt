@@ -1,5 +1,5 @@
 -- The refusals of a tag on a rack, from what is known of its bytes.
-use Rattle.std.proofs.Common.{◌≡◌, ℕ, ◌≤◌, Bool, true, false, cond, not, ◌==◌, List, length, Some, None, Ok, Err, Option, sym, refl, ap, ◌∙◌, arith}
+use Rattle.std.proofs.Common.{◌≡◌, ℕ, ◌≤◌, Bool, true, false, cond, not, ◌==◌, List, length, Some, None, Ok, Err, Option, Bor, sym, refl, ap, ◌∙◌, arith}
 use Rattle.std.proofs.lemmas.Bool.{eqb-true}
 use Rattle.std.proofs.lemmas.Bool.Decides.{nat_tests}
 use Rattle.formats.specs.declared.fault.TagFault.{TagFault}
@@ -93,6 +93,11 @@ module _ (h b : List ℕ) (f : tag_fault h ≡ None) where
         go : (s : Side) → tree_of (side_of s h b) ≡ tree_of h
         go First = refl
         go Second = one_number fine.0
+
+-- of the two tags, the bytes of the one that is taken
+pub side_now : (s : Side) (x y z : Bor (List ℕ)) → z ≡ side_of s x y → z.now ≡ side_of s x.now y.now
+side_now First x y z e = ap (λ (z : Bor (List ℕ)). z.now) e
+side_now Second x y z e = ap (λ (z : Bor (List ℕ)). z.now) e
 
 -- the fields that a part has are there
 pub part_within : (a b : List ℕ) (p : Part) → Shared (label_of a) (label_of b) p → p.fields ≤ count_of (side_of p.side a b)

@@ -4,13 +4,14 @@ ghost use Rattle.formats.specs.Faults.{tag_fault};
 
 use crate::refusal::RackRefusal;
 use arrayvec::ArrayVec;
-use formats::answers::{Related, Side};
+use formats::answers::Related;
 use tags::cut::cut;
 use tags::limits::MOST_TAG_BYTES;
 use tags::queries::{cover, relate};
 use tags::tag::Tag;
 
-// The bytes are a tag. That it is of a rack's tree number is a fact of the rack: a held tag knows of no rack.
+// The bytes are a tag. That it is of a rack's tree number is a fact of the rack: a held tag knows of no rack, and a tree number of its
+// own would have to be compared with the rack's in as many contracts.
 #[derive(Drop)]
 pub(crate) struct Held {
     bytes: ArrayVec<u8, MOST_TAG_BYTES>,
@@ -65,11 +66,7 @@ impl Held {
     {
         let held = self.tag();
         let part = cover(held, tag)?;
-        let cut_from = match part.side {
-            Side::First => held,
-            Side::Second => tag,
-        };
-        Ok(Held::front(cut_from, part.fields))
+        Ok(Held::front(part.side.of(held, tag), part.fields))
     }
 
     // Writes the tag over the front of `out`, if there is room for it.
@@ -80,6 +77,7 @@ impl Held {
         if out.len() < tag.len() {
             return Err(RackRefusal::ShortOutput);
         }
+        // One range and one copy: a helper for them would be no plainer.
         out[..tag.len()].copy_from_slice(tag);
         Ok(tag.len())
     }

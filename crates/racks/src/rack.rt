@@ -3,7 +3,8 @@ ghost use Rattle.std.specs.Prelude.{◌≡◌, true, false, length, Some, MatchR
 ghost use Rattle.racks.specs.Sound.{Sound};
 
 use crate::held::Held;
-use crate::place::{PLACES, Place};
+pub use crate::place::PLACES;
+use crate::place::Place;
 use crate::refusal::{RackRefusal, Refused};
 use crate::stage::Stage;
 use crate::ticket::{AnyTicket, Opened, OpenedTicket, StartedTicket, Ticket};
@@ -19,7 +20,8 @@ pub struct Rack {
     ghost sound: { Sound tree places },
 }
 
-// The calls. Each answers what the model answers to it in the state before, and leaves the model's state after it.
+// The calls. Each answers what the model answers to it in the state before, and leaves the model's state after it: that is what
+// this crate promises, so that the contract of each call says it.
 impl Rack {
     ghost use Rattle.formats.specs.Layout.{tree_of};
     ghost use Rattle.histories.specs.Model.{fresh, opens, starts, adds, covers, closes, compares, abandons, after, answer, refuses, hands, spends, started, traded, cell, put};
@@ -44,12 +46,11 @@ impl Rack {
         ensures answers { open_said result ≡ answer (state_of self.old) (opens place) }
         ensures leaves { state_of self.new ≡ after (state_of self.old) (opens place) }
     {
-        if place >= PLACES {
-            return Err(RackRefusal::NoSuchPlace);
-        }
-        if !matches!(self.places[place], Place::Empty) {
+        let found = self.places.get(place).ok_or(RackRefusal::NoSuchPlace)?;
+        if !matches!(found, Place::Empty) {
             return Err(RackRefusal::NotEmpty);
         }
+        // By number: through `get_mut` the proof did not close, since each way out then has to show anew that the rack is sound.
         self.places[place] = Place::Opened;
         Ok(Ticket {
             rack: self.number,
@@ -67,6 +68,7 @@ impl Rack {
         ensures answers { start_said result ≡ answer (state_of self.old) (starts (opened_of ticket) tag.now) }
         ensures leaves { state_of self.new ≡ after (state_of self.old) (starts (opened_of ticket) tag.now) }
     {
+        // A match: either end takes the ticket, and a closure for `map_err` would take it from the other.
         match self.first_held(&ticket, tag) {
             Ok(held) => {
                 self.places[ticket.place] = Place::Started(held);
@@ -98,10 +100,9 @@ impl Rack {
     pub fn compare(&self, first: usize, second: usize) -> Result<Related, RackRefusal>
         ensures { compare_said result ≡ answer (state_of self.now) (compares first second) }
     {
-        if first >= PLACES || second >= PLACES {
-            return Err(RackRefusal::NoSuchPlace);
-        }
-        match (&self.places[first], &self.places[second]) {
+        let first = self.places.get(first).ok_or(RackRefusal::NoSuchPlace)?;
+        let second = self.places.get(second).ok_or(RackRefusal::NoSuchPlace)?;
+        match (first, second) {
             (Place::Started(a), Place::Started(b)) => a.related_to(b),
             _ => Err(RackRefusal::NotStarted),
         }
@@ -117,6 +118,7 @@ impl Rack {
         ensures leaves { state_of self.new ≡ after (state_of self.old) (closes (started_of ticket) (length out.old)) }
         ensures output { out.new ≡ output_of (answer (state_of self.old) (closes (started_of ticket) (length out.old))) out.old }
     {
+        // A match, as in `start`.
         match self.cover(&ticket, out) {
             Ok(len) => {
                 self.places[ticket.place] = Place::Empty;
@@ -178,7 +180,7 @@ impl Rack {
             MatchResult result (λ h. (fitting self.now t ≡ true) × (cell (state_of self.now) t.place ≡ started (held_bytes h.now)) × (tree_of (held_bytes h.now) ≡ self.now.tree)) (λ e. (e ≡ RackRefusal.DoesNotFit) × (fitting self.now t ≡ false)) }
     {
         match &self.places[ticket.place] {
-            Place::Started(held) if ticket.rack == self.number => Ok(held),
+            Place::Started(held) if self.fits(ticket) => Ok(held),
             _ => Err(RackRefusal::DoesNotFit),
         }
     }

@@ -56,7 +56,7 @@ impl From<PairRefusal> for RackRefusal {
 }
 
 impl RackRefusal {
-    // A match, since a carried fault has a number of its own.
+    // A match, since a carried fault has a number of its own; 20, 21 and 23 are the numbers of the same refusals of tags.
     pub fn number(&self) -> u8
         ensures { result ≡ refusal_number (refusal_of self.now) }
     {

@@ -33,7 +33,7 @@ fn carried(from: &mut Rack, to: &mut Rack, tag: &[u8]) -> (u8, bool) {
     }
 }
 
-// The same on one rack.
+// The same on one rack, which cannot be lent twice.
 fn tried(rack: &mut Rack, place: usize, tag: &[u8]) -> (u8, bool) {
     match rack.open(place) {
         Ok(opened) => match rack.start(opened, tag) {

@@ -24,7 +24,7 @@ pub type OpenedTicket = Ticket<Opened>;
 // The right to a started place.
 pub type StartedTicket = Ticket<Started>;
 
-// Either of them.
+// Either of them. The variant says which, in as many words as a `From` for each kind would take.
 pub enum AnyTicket {
     Opened(OpenedTicket),
     Started(StartedTicket),

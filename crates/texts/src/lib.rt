@@ -8,7 +8,7 @@ ghost use Rattle.texts.specs.Lines.{feed, line_of, after_line, without_return};
 ghost use Rattle.texts.specs.PartsList.{level_of};
 
 // The greatest level that a line may have.
-pub const MOST_LEVEL: u32 = 65_535;
+pub const MOST_LEVEL: u32 = u16::MAX as u32;
 
 // The number that a digit makes of the one before it, where it is a digit and the number is not above `most`.
 fn with_digit(value: u32, b: u8, most: u32) -> Option<u32>
@@ -51,6 +51,7 @@ pub fn split_line(text: &[u8]) -> (&[u8], &[u8])
     ensures line { result.0.now ≡ line_of text.now }
     ensures rest { result.1.now ≡ after_line text.now }
 {
+    // Two ranges: bytes have no `split_once`, and after `split_at` the feed would still have to go.
     match line_end(text) {
         Some(n) => (&text[..n], &text[n + 1..]),
         None => (text, &[]),
