@@ -18,7 +18,8 @@ fn set_bit(out: &mut [u8], j: usize)
     out[j / BYTE_BITS] |= HIGH_BIT >> (j % BYTE_BITS);
 }
 
-// Writes the bits of a word from the bit `at` on, where all is clear.
+// Writes the bits of a word from the bit `at` on, where all is clear. A word may begin within a byte, so it gets no part of the output
+// to itself.
 #[tactic(auto, using(crate::proofs::Packing::length_unpacked, crate::proofs::Puts::wrote_nil))]
 pub fn put_word(out: &mut [u8], at: usize, word: Word)
     requires room { at + word.len ≤ 8 * length out.old }
