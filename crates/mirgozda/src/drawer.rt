@@ -1,6 +1,5 @@
 // The tickets that a script has in hand, by place.
-use racks::place::PLACES;
-use racks::rack::Rack;
+use racks::rack::{PLACES, Rack};
 use racks::ticket::AnyTicket;
 use std::{array, mem};
 

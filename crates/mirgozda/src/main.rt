@@ -18,7 +18,7 @@ mod state;
 use answer::carry_out;
 use jobs::say_abandoned;
 use line::{is_passed_over, split_words};
-use racks::place::PLACES;
+use racks::rack::PLACES;
 use refusal::Refusal;
 use state::State;
 use std::io;

@@ -2,7 +2,7 @@
 #![tactic(auto)]
 
 mod held;
-pub mod place;
+mod place;
 pub mod rack;
 pub mod refusal;
 mod stage;
