@@ -1,11 +1,13 @@
 // Chooses the command of a line.
+use crate::bench::Bench;
 use crate::refusal::Refusal;
 use crate::state::State;
 use crate::{coding, hosts, jobs, pressing, scans};
 use tags::queries::{cover, difference, relate};
 use trees::rule::Shape;
 
-// Carries out the command of these words.
+// Carries out the command of these words. Each command takes what is at hand, its words and the output apart: of one struct of the
+// three, each would borrow every part again.
 pub fn carry_out(
     rt: &HostRuntime,
     state: &mut State,
@@ -28,9 +30,9 @@ pub fn carry_out(
         "word" => coding::word(state, rest, out),
         "read" => scans::read(state, rest, out),
         "cut" => scans::cutting(state, rest, out),
-        "difference" => scans::on_two(state, rest, out, |a, b| difference(a, b)),
-        "cover" => scans::on_two(state, rest, out, |a, b| cover(a, b)),
-        "relate" => scans::on_two(state, rest, out, |a, b| relate(a, b)),
+        "difference" => scans::on_two(state, rest, out, difference),
+        "cover" => scans::on_two(state, rest, out, cover),
+        "relate" => scans::on_two(state, rest, out, relate),
         "press" => pressing::pressing(state, rest, out),
         "sheet" => pressing::show_sheet(state, rest, out),
         "save" => pressing::save(rt, state, rest, out),
@@ -38,35 +40,11 @@ pub fn carry_out(
         "tag" => pressing::show_tag(state, rest, out),
         "rack" => jobs::rack(state, rest, out),
         "open" => jobs::open(state, rest, out),
-        "start" => jobs::bring(
-            state,
-            rest,
-            out,
-            |bench, place, tag| bench.start(place, tag),
-            "started",
-        ),
-        "add" => jobs::bring(
-            state,
-            rest,
-            out,
-            |bench, place, tag| bench.add(place, tag),
-            "added",
-        ),
-        "held" => jobs::write_held(
-            state,
-            rest,
-            out,
-            |bench, place, room| bench.held(place, room),
-            "tag",
-        ),
+        "start" => jobs::bring(state, rest, out, Bench::start, "started"),
+        "add" => jobs::bring(state, rest, out, Bench::add, "added"),
+        "held" => jobs::write_held(state, rest, out, Bench::held, "tag"),
         "compare" => jobs::compare(state, rest, out),
-        "close" => jobs::write_held(
-            state,
-            rest,
-            out,
-            |bench, place, room| bench.close(place, room),
-            "closed",
-        ),
+        "close" => jobs::write_held(state, rest, out, Bench::close, "closed"),
         "abandon" => jobs::abandon(state, rest, out),
         _ => Err(Refusal::NotUnderstood),
     }

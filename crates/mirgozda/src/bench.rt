@@ -34,9 +34,7 @@ impl Bench {
 
     // Opens a place, unless its ticket is in hand already.
     pub fn open(&mut self, place: usize) -> Result<(), Refusal> {
-        let Some(rack) = &mut self.rack else {
-            return Err(Refusal::NoRack);
-        };
+        let rack = self.rack.as_mut().ok_or(Refusal::NoRack)?;
         if self.drawer.has(place) {
             return Err(Refusal::TicketInHand { place });
         }
@@ -47,9 +45,7 @@ impl Bench {
 
     // Trades the opened ticket for a place for a started one. It is no call of `with_started`, since both kinds of ticket can be left.
     pub fn start(&mut self, place: usize, tag: &[u8]) -> Result<(), Refusal> {
-        let Some(rack) = &mut self.rack else {
-            return Err(Refusal::NoRack);
-        };
+        let rack = self.rack.as_mut().ok_or(Refusal::NoRack)?;
         match self.drawer.take(place) {
             Some(AnyTicket::Opened(ticket)) => match rack.start(ticket, tag) {
                 Ok(started) => {
@@ -79,8 +75,8 @@ impl Bench {
         match (slot, &mut self.rack) {
             (Some(AnyTicket::Started(ticket)), Some(rack)) => {
                 let (left, done) = call(rack, ticket);
-                self.put(place, left.map(|ticket| AnyTicket::Started(ticket)));
-                done.map_err(|why| Refusal::from(why))
+                self.put(place, left.map(AnyTicket::Started));
+                Ok(done?)
             }
             (slot, _) => {
                 self.put(place, slot);
@@ -118,10 +114,8 @@ impl Bench {
 
     // How the nodes of the tags that two places hold stand to each other.
     pub fn compare(&self, first: usize, second: usize) -> Result<Related, Refusal> {
-        match &self.rack {
-            Some(rack) => Ok(rack.compare(first, second)?),
-            None => Err(Refusal::NoRack),
-        }
+        let rack = self.rack.as_ref().ok_or(Refusal::NoRack)?;
+        Ok(rack.compare(first, second)?)
     }
 
     // Spends the ticket for a place, and says whether that emptied the place; none where no ticket is in hand.

@@ -32,6 +32,7 @@ impl fmt::Display for Coding {
     }
 }
 
+// The two names again, as `Display` prints them: a search over both by what they print would need memory for the print.
 impl FromStr for Coding {
     type Err = Refusal;
 

@@ -7,7 +7,8 @@ pub struct Drawer {
     slots: [Option<AnyTicket>; PLACES],
 }
 
-// Spends a ticket, and says whether that emptied its place. Any rack spends any ticket.
+// Spends a ticket, and says whether that emptied its place. Any rack spends any ticket, and a ticket ends
+// only by a rack, so one is made for it where there is none.
 pub fn spend(rack: &mut Option<Rack>, ticket: AnyTicket) -> bool {
     match rack {
         Some(rack) => rack.abandon(ticket),
@@ -47,7 +48,8 @@ impl Drawer {
         self.put(place, None)
     }
 
-    // Puts a ticket in for a place, or none, and gives back what lay there; a ticket for a place that no rack has is given back itself.
+    // Puts a ticket in for a place, or none, and gives back what lay there; a ticket for a place that no rack has is given back
+    // itself. Both are for the caller to spend, so one answer tells enough.
     pub fn put(&mut self, place: usize, slot: Option<AnyTicket>) -> Option<AnyTicket> {
         match self.slots.get_mut(place) {
             Some(old) => mem::replace(old, slot),

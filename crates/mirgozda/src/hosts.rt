@@ -24,12 +24,17 @@ pub fn levels(state: &mut State, rest: &[&str], out: &mut Vec<u8>) -> Result<(),
     take_levels(state, levels, out)
 }
 
+// The refusal of a file. Its name is copied: with a borrowed one, what each command answers would have a lifetime.
+fn cannot_read(heap: Global, file: &str) -> Refusal {
+    match String::from_str(heap, file) {
+        Ok(name) => Refusal::CannotRead(name),
+        Err(error) => Refusal::from(error),
+    }
+}
+
 // The bytes of a file.
 pub fn read_file(rt: &HostRuntime, heap: Global, file: &str) -> Result<Vec<u8>, Refusal> {
-    match fs::read(rt, file) {
-        Ok(bytes) => Ok(bytes),
-        Err(_) => Err(Refusal::CannotRead(String::from_str(heap, file)?)),
-    }
+    fs::read(rt, file).map_err(|_| cannot_read(heap, file))
 }
 
 pub fn list(
@@ -43,7 +48,7 @@ pub fn list(
     };
     let text = read_file(rt, state.heap, file)?;
     let Some(levels) = levels_of_text(state.heap, text.as_slice())? else {
-        return Err(Refusal::CannotRead(String::from_str(state.heap, file)?));
+        return Err(cannot_read(state.heap, file));
     };
     take_levels(state, levels, out)
 }

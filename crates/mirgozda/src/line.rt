@@ -85,11 +85,7 @@ pub fn tag_word(heap: Global, word: &str) -> Result<TagWord, Refusal> {
     if let Some(node) = word.strip_prefix('@') {
         return Ok(TagWord::Node(number_of(node)?));
     }
-    let bytes = word
-        .as_bytes()
-        .chunks(2)
-        .map(|pair| byte_of(pair))
-        .try_collect(heap)?;
+    let bytes = word.as_bytes().chunks(2).map(byte_of).try_collect(heap)?;
     Ok(TagWord::Bytes(bytes))
 }
 

@@ -63,10 +63,10 @@ fn answer_line(
     out.write_all(b"\n")?;
     let done = answer_words(rt, state, line, out);
     rt.write_all(out.as_slice())?;
-    match done {
-        Ok(()) => Ok(()),
-        Err(refusal) => println!(rt; "{refusal}"),
+    if let Err(refusal) = done {
+        println!(rt; "{refusal}")?;
     }
+    Ok(())
 }
 
 // Answers each line of the input. The lines are counted, since a loop is proved to end.

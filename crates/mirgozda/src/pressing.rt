@@ -3,14 +3,13 @@ use crate::hosts::read_file;
 use crate::line::{Hex, TagWord, number_of};
 use crate::refusal::Refusal;
 use crate::state::State;
-use formats::layout::{BYTE_BITS, ENDS_AT};
+use formats::layout::{BYTE_BITS, ENDS_AT, ENTRY_BYTES};
 use formats::limits::MOST_FIELD_BITS;
-use rows::carrier::ROWS;
-use sheets::press::press;
+use sheets::look::{OFFSET_BYTES, OFFSETS_AT};
+use sheets::press::{ROWS, press};
 use std::fs;
 use std::io::Write;
 use trees::host::MOST_NODES;
-use writing::layout::{OFFSET_BYTES, OFFSETS_AT};
 
 // As many work numbers as any tree can need.
 const MOST_WORK: usize = ROWS * MOST_NODES as usize;
@@ -20,8 +19,7 @@ const MOST_LABEL_FIELDS: usize = 29;
 
 // As many bytes as any label can need as a tag: an end for each field, a depth for every other one, and their words.
 const MOST_LABEL_BYTES: usize = ENDS_AT
-    + 2 * MOST_LABEL_FIELDS
-    + (MOST_LABEL_FIELDS + 1)
+    + ENTRY_BYTES * (MOST_LABEL_FIELDS + (MOST_LABEL_FIELDS + 1) / 2)
     + MOST_LABEL_FIELDS * MOST_FIELD_BITS as usize / BYTE_BITS;
 
 // As many bytes as any sheet can need.
@@ -57,9 +55,9 @@ pub fn pressing(state: &mut State, rest: &[&str], out: &mut Vec<u8>) -> Result<(
         [number] => press_into(state, number_of(number)?, MOST_WORK, MOST_SHEET, out),
         [number, "work", work, "room", room] => {
             let number = number_of(number)?;
-            let work: u32 = number_of(work)?;
-            let room: u32 = number_of(room)?;
-            press_into(state, number, work as usize, room as usize, out)
+            let work = number_of(work)?;
+            let room = number_of(room)?;
+            press_into(state, number, work, room, out)
         }
         _ => Err(Refusal::NotUnderstood),
     }

@@ -90,6 +90,8 @@ impl From<ClimbRefusal> for Refusal {
     }
 }
 
+// A number is all that is told of these. One `From` for each: one for all types that have a number would overlap the others, and a macro
+// makes no impls here.
 impl From<CodeRefusal> for Refusal {
     fn from(refusal: CodeRefusal) -> Refusal {
         Refusal::Refused {

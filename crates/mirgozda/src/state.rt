@@ -29,18 +29,15 @@ impl State {
 
     // The present host.
     pub fn host(&self) -> Result<AnyHost<'_>, Refusal> {
-        match &self.source {
-            Some(source) => Ok(source.host()),
-            None => Err(Refusal::NoHost),
-        }
+        self.source
+            .as_ref()
+            .map(|source| source.host())
+            .ok_or(Refusal::NoHost)
     }
 
     // The bytes of the present sheet.
     pub fn sheet(&self) -> Result<&[u8], Refusal> {
-        match &self.sheet {
-            Some(sheet) => Ok(sheet.as_slice()),
-            None => Err(Refusal::NoSheet),
-        }
+        self.sheet.as_deref().ok_or(Refusal::NoSheet)
     }
 
     // The bytes that a word stands for; those of a node are looked up on the present sheet.

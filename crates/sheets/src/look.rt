@@ -5,7 +5,9 @@ ghost use Rattle.sheets.specs.LookingUp.{offset_at, look_up_answer};
 
 use codes::word::joined;
 use formats::layout::pair;
-use writing::layout::{NODES_AT, OFFSET_BYTES, OFFSETS_AT, header};
+// Where the offsets of a sheet begin, and how many bytes each has.
+pub use writing::layout::{OFFSET_BYTES, OFFSETS_AT};
+use writing::layout::{NODES_AT, header};
 
 // Why there is no tag.
 #[derive(Clone, Copy, PartialEq, Eq, Debug)]

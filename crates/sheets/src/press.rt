@@ -8,7 +8,9 @@ ghost use Rattle.sheets.specs.Promises.{Promises};
 ghost use Rattle.sheets.specs.Pressing.{measured, pressed, press_answer, press_output};
 
 use codes::code::Code;
-use rows::carrier::{ROWS, Rows};
+// How many numbers of work memory each node needs.
+pub use rows::carrier::ROWS;
+use rows::carrier::Rows;
 use rows::filling::fill;
 use rows::finished::Marks;
 use trees::host::{Host, HostFault};
