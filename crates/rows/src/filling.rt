@@ -4,7 +4,7 @@ ghost use Rattle.rows.specs.Rows.{parents_in};
 
 use crate::carrier::Rows;
 use crate::chains::Desk;
-use crate::finished::{Marks, TreeWords};
+use crate::finished::{Marks, TreeWords, Words};
 use crate::growth::{Grown, heavies, lights, sizes};
 use crate::marks::{counts, depths, tops};
 use crate::parents::gather;
@@ -79,8 +79,8 @@ pub fn fill<'a, H: Host, C: Code>(host: &H, code: &'a C, rows: Rows<'a>) -> Mark
         code,
         up,
         top: light,
-        path,
-        branch,
+        path: Words::of(path),
+        branch: Words::of(branch),
     };
     fill_marks(words, next, list, size)
 }

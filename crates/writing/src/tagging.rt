@@ -16,10 +16,9 @@ ghost use Rattle.writing.specs.Tags.{ends_at, row_tag, Turned, Straight};
 use crate::bits::put_word;
 use crate::bytes::put;
 use codes::code::Code;
-use codes::rows::WordRows;
 use codes::word::{Word, joined};
 use formats::layout::{COUNT_AT, ENDS_AT, ENTRY_BYTES, NUMBER_AT, filled, head_of};
-use rows::finished::Marks;
+use rows::finished::{Marks, Words};
 
 // Where a path leaves the one above it: the node there, and the branch word.
 #[derive(Clone, Copy)]
@@ -29,7 +28,7 @@ struct Turn {
 }
 
 // The word at a place of rows.
-fn word_at(rows: &WordRows, i: usize) -> Word
+fn word_at(rows: &Words, i: usize) -> Word
     requires high { i < length rows.now.high.now }
     requires low { i < length rows.now.low.now }
     requires len { i < length rows.now.len.now }
