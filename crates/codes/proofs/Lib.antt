@@ -3,3 +3,4 @@ pub mod Answering
 pub mod Shifts
 pub mod Descents
 pub mod Encoding
+pub mod Filled

@@ -68,3 +68,7 @@ pub indented_tree : (xs : List ℕ) (n : ℕ) → indented_verdict xs ≡ Ok n �
 indented_tree xs n e =
     let s = sound xs n e in
     host_tree (indented_verdict xs) n (λ v. nearest xs (slice_index xs v) v) e s.some s.few (has_parent xs n s)
+
+-- where the verdict is a count, there are as many lines
+pub counted : (xs : List ℕ) (n : ℕ) → indented_verdict xs ≡ Ok n → length xs ≡ n
+counted xs n e = (sound xs n e).count
