@@ -1,7 +1,7 @@
 pub mod Puts
 pub mod Shown
 pub mod Showing
-pub mod Listed
+pub mod Carried
 pub mod Compared
 pub mod Parting
 pub mod Paired

@@ -1,7 +1,7 @@
 // Where things stand in the bytes of a tag. What stands past the end is taken for 0. The functions take bytes and no `Tag`, since they
 // are what reading tests the bytes with, before there is one.
 ghost use Rattle.std.specs.Prelude.{◌≡◌, ℕ, ◌+◌, ◌-◌, ◌*◌, ◌/◌, ◌%◌, ◌^◌, ◌<◌, ◌≤◌, length, slice_index};
-ghost use Rattle.formats.specs.Layout.{pair_at, count_of, end_at, begin_at, depth_at, least_at, end_step, depth_step, ends_fine, depths_fine, spare_of, bit_at};
+ghost use Rattle.formats.specs.Layout.{pair_at, count_of, end_at, begin_at, depth_at, end_step, depth_step, ends_fine, depths_fine, spare_of, bit_at};
 
 use crate::limits::{MOST_BODY_BITS, MOST_DEPTH, MOST_FIELD_BITS};
 use formats::layout::{BYTE_BITS, COUNT_AT, ENDS_AT, ENTRY_BYTES, byte, filled, pair};
@@ -72,14 +72,6 @@ fn end_follows(before: u16, end: u16) -> bool
     before < end && end as u32 <= before as u32 + MOST_FIELD_BITS && end <= MOST_BODY_BITS
 }
 
-// What depth entry `j` has to be at least.
-fn least_of(bytes: &[u8], j: u8) -> u32
-    ensures { result ≡ least_at bytes.now j }
-{
-    j.checked_sub(1)
-        .map_or(0, |before| depth_of(bytes, before) as u32 + 1)
-}
-
 // A depth is at least `least`, and not too deep.
 fn depth_follows(least: u32, depth: u16) -> bool
     ensures { result ≡ depth_step least depth }
@@ -91,12 +83,22 @@ fn depth_follows(least: u32, depth: u16) -> bool
 pub(crate) fn ends_rise(bytes: &[u8], k: u8) -> bool
     ensures { result ≡ ends_fine bytes.now k }
 {
-    (0..k).all(|i| end_follows(begin_of(bytes, i), end_of(bytes, i)))
+    (0..k)
+        .try_fold(0, |before, i| {
+            let end = end_of(bytes, i);
+            end_follows(before, end).then_some(end)
+        })
+        .is_some()
 }
 
 // The first `n` depths.
 pub(crate) fn depths_rise(bytes: &[u8], n: u8) -> bool
     ensures { result ≡ depths_fine bytes.now n }
 {
-    (0..n).all(|j| depth_follows(least_of(bytes, j), depth_of(bytes, j)))
+    (0..n)
+        .try_fold(0, |least, j| {
+            let depth = depth_of(bytes, j);
+            depth_follows(least, depth).then_some(depth as u32 + 1)
+        })
+        .is_some()
 }

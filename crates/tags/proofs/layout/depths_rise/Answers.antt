@@ -1,11 +1,9 @@
-use Rattle.std.proofs.Common.{refl, ◌∙◌, arith, rules, tests}
-use Rattle.std.proofs.lemmas.Iterator.{YieldsList-from_range}
-use Rattle.std.proofs.lemmas.Iterator.Search.{all_from_yields_List}
-use Rattle.formats.specs.Layout.{depth_fine}
-use Rattle.tags.proofs.Listed.{all_listed}
+use Rattle.std.proofs.Common.{refl, ◌∙◌, rules}
+use Rattle.formats.specs.Layout.{least_at, depth_fine}
+use Rattle.tags.proofs.Carried.{all_carried}
 use Rattle.tags.proofs.layout.depths_rise.Goals as goal
 
 pub returns : goal.returns
 returns c =
-    all_from_yields_List (depth_fine c.args.bytes.now) _ _ _ c.all.ensures.ran (YieldsList-from_range 0 c.args.n c.args.n refl (omega arith)) (λ x b q k. search (rules, tests))
-    ∙ all_listed (depth_fine c.args.bytes.now) c.args.n
+    c.is_some.ensures
+    ∙ all_carried _ _ _ (depth_fine c.args.bytes.now) (least_at c.args.bytes.now) c.args.n _ _ c.try_fold.result (λ i r q k. search rules) refl refl c.try_fold.ensures.ran
