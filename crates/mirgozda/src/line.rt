@@ -38,9 +38,13 @@ pub fn place_of(word: &str) -> Result<usize, Refusal> {
     Ok(usize::from(place))
 }
 
-// Numbers of at most 65,535.
+// Numbers of at most 65,535. A loop, since how many there are is known: `try_collect` begins with room for none, and grows.
 pub fn numbers_of(heap: Global, words: &[&str]) -> Result<Vec<u16>, Refusal> {
-    words.iter().map(|word| number_of(word)).try_collect(heap)
+    let mut numbers = Vec::with_capacity(heap, words.len())?;
+    for word in words {
+        numbers.push(number_of(word)?)?;
+    }
+    Ok(numbers)
 }
 
 // The words in front of `room N`, and N; or all words, and as many bytes as any tag can need.
@@ -85,7 +89,15 @@ pub fn tag_word(heap: Global, word: &str) -> Result<TagWord, Refusal> {
     if let Some(node) = word.strip_prefix('@') {
         return Ok(TagWord::Node(number_of(node)?));
     }
-    let bytes = word.as_bytes().chunks(2).map(byte_of).try_collect(heap)?;
+    // An odd number of digits is told before any memory is asked for.
+    if word.len() % 2 != 0 {
+        return Err(Refusal::NotUnderstood);
+    }
+    // As in `numbers_of`.
+    let mut bytes = Vec::with_capacity(heap, word.len() / 2)?;
+    for pair in word.as_bytes().chunks(2) {
+        bytes.push(byte_of(pair)?)?;
+    }
     Ok(TagWord::Bytes(bytes))
 }
 

@@ -47,6 +47,17 @@ fn answer_words(
     carry_out(rt, state, words.as_slice(), out)
 }
 
+// Prints what is answered and why there is no more: in one write, where there is memory for both.
+fn print_refused(rt: &HostRuntime, refusal: Refusal, out: &mut Vec<u8>) -> io::Result<()> {
+    let answered = out.len();
+    if writeln!(out, "{refusal}").is_ok() {
+        return rt.write_all(out.as_slice());
+    }
+    out.truncate(answered);
+    rt.write_all(out.as_slice())?;
+    println!(rt; "{refusal}")
+}
+
 // Prints a line again with its answer, or with why there is none. A want of memory is said so too, and the script goes on.
 fn answer_line(
     rt: &HostRuntime,
@@ -61,12 +72,10 @@ fn answer_line(
     out.write_all(b"> ")?;
     out.write_all(line)?;
     out.write_all(b"\n")?;
-    let done = answer_words(rt, state, line, out);
-    rt.write_all(out.as_slice())?;
-    if let Err(refusal) = done {
-        println!(rt; "{refusal}")?;
+    match answer_words(rt, state, line, out) {
+        Ok(()) => rt.write_all(out.as_slice()),
+        Err(refusal) => print_refused(rt, refusal, out),
     }
-    Ok(())
 }
 
 // Answers each line of the input. The lines are counted, since a loop is proved to end.

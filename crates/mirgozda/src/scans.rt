@@ -9,26 +9,29 @@ use tags::cut::cut;
 use tags::field::{Field, FieldWord};
 use tags::tag::Tag;
 
-// A field's word, printed as 0 and 1.
-#[derive(Clone, Copy)]
-struct Bits<'a>(FieldWord<'a>);
-
-impl fmt::Display for Bits<'_> {
-    fn fmt<W: fmt::Write>(&self, f: &mut fmt::Formatter<W>) -> fmt::Result {
-        for bit in (0..self.0.len).filter_map(|t| self.0.bit(t)) {
-            f.write_str(if bit { "1" } else { "0" })?;
-        }
-        Ok(())
-    }
+// Adds the bits of a field's word as 0 and 1. They go to the output itself: through a formatter each would be a write of its own.
+fn add_word(word: &FieldWord, out: &mut Vec<u8>) -> Result<(), Refusal> {
+    let digits = (0..word.len).map(|t| if word.bit(t) == Some(true) {
+        b'1'
+    } else {
+        b'0'
+    });
+    Ok(out.extend(digits)?)
 }
 
 fn say_field(field: Field, out: &mut Vec<u8>) -> Result<(), Refusal> {
     let word = field.word();
-    let first_bit = word.first_bit;
-    let bits = Bits(word);
     match field {
-        Field::Path { depth, .. } => writeln!(out, "path {first_bit} {bits} depth {depth}")?,
-        Field::Branch { .. } => writeln!(out, "branch {first_bit} {bits}")?,
+        Field::Path { depth, .. } => {
+            write!(out, "path {} ", word.first_bit)?;
+            add_word(&word, out)?;
+            writeln!(out, " depth {depth}")?;
+        }
+        Field::Branch { .. } => {
+            write!(out, "branch {} ", word.first_bit)?;
+            add_word(&word, out)?;
+            writeln!(out)?;
+        }
     }
     Ok(())
 }
